@@ -1,0 +1,5 @@
+pub mod Searches
+pub mod Closing
+pub mod Explaining
+pub mod Law
+pub mod Samples
