@@ -1,16 +1,9 @@
 //! Literals: claim `i` has the literal `2 * i`, and its denial is `2 * i + 1`.
 ghost use mathlib.Core.Path.{_≡_};
-ghost use Rattle.theory.specs.Literals.{claim, complement};
+ghost use Rattle.theory.specs.Literals.{complement};
 
 /// A claim or its denial, by number.
 pub type Literal = u16;
-
-/// The number of the claim that a literal asserts or denies.
-pub fn claim_of(l: Literal) -> usize
-    ensures { λ r. ⌜ r ≡ claim l ⌝ }
-{
-    l as usize / 2
-}
 
 /// The denial of a claim, or the claim of a denial.
 pub fn complement_of(l: Literal) -> Literal

@@ -1,0 +1,4 @@
+pub mod Nearest
+pub mod Twins
+pub mod Growing
+pub mod Marking

@@ -1,0 +1,3 @@
+pub mod Index
+pub mod Logs
+pub mod Marked

@@ -1,0 +1,7 @@
+//! Equality over a table of terms, as a theory.
+
+pub(crate) mod closure;
+pub(crate) mod explain;
+pub(crate) mod index;
+pub(crate) mod marks;
+pub(crate) mod terms;
