@@ -7,6 +7,7 @@ use Rattle.std.specs.declared.option.Option.{Option}
 use Rattle.std.specs.declared.option.Option.the-variants.{Some, None}
 use Prim.Native.Nat.{ℕ, zero, suc, _+_, _-_, _*_, _/_, _%_, _<_, _≤_}
 use native.Mathlib.Omega.{arith}
+use native.Mathlib.Numerals.{add-one}
 use lib.ListN.{length, getD}
 use lib.Dec.{eqb, ltb}
 use lib.IntN.{ℤ, pos}
@@ -19,13 +20,14 @@ use Rattle.congruence.specs.declared.claim.Claim.{Claim}
 use Rattle.congruence.specs.declared.step.Step.{Step}
 use Rattle.congruence.specs.declared.step.Reason.{Reason}
 use Rattle.congruence.specs.declared.step.Reason.the-variants as Reason
-use Rattle.theory.specs.Literals.{claim, complement, every, has, Proper}
+use Rattle.theory.specs.Literals.{claim, complement, has, Proper}
 use Rattle.theory.specs.Meaning.{Answer, possible, impossible, Meaning, Rising, Lawful}
 use Rattle.congruence.specs.Table.{at, arg, Lower}
 use Rattle.congruence.specs.Congruence.{Congruent, Fit, Joined}
 use Rattle.congruence.specs.Merges.{when, first, label, pair-at, pair-of, settle, join, absorb, log-at, log-of, needed, listed}
 use Rattle.congruence.specs.Equality.{num, Says, clashes, clash, core, answer-of, row, equality, Named, Asserts, Asserted, Contradicted, Labelled, OneDenial, Standing, Stands}
-use Rattle.congruence.specs.Log.{RestsOn, Rightful, Logged}
+use Rattle.congruence.specs.Log.{RestsOn, Rightful, Logged, Formed}
+use Rattle.theory.proofs.Claims.{proper-at}
 use Rattle.congruence.proofs.Searches.{found, not-found, when-some, when-none, listed-rises, listed-all, listed-has, listed-only, row-long, row-at}
 use Rattle.congruence.proofs.Closing.{Settled, settles, joins, roots-few, label-low, label-root}
 use Rattle.congruence.proofs.Explaining.{complete, widen, At, explained, needed-asserted}
@@ -94,14 +96,19 @@ module _ (claims : List Claim) (v : List ℤ) where
 
 -- ---- a list of literals
 
-every-at : (n : ℕ) (ls : List ℕ) (p : ℕ) → every (λ l. ltb l (2 * n)) ls ≡ true → p < length ls → getD ls p 0 < 2 * n
-every-at n [] p e h = absurd (omega (arith, h))
-every-at n (l ∷ ls) zero e h = ltb-true l (2 * n) (and-parts (ltb l (2 * n)) (every (λ k. ltb k (2 * n)) ls) e .0)
-every-at n (l ∷ ls) (suc p) e h = every-at n ls p (and-parts (ltb l (2 * n)) (every (λ k. ltb k (2 * n)) ls) e .1) (omega (arith, h))
-
 all-from : (P : ℕ → Type 0) (ls : List ℕ) → ((p : ℕ) → p < length ls → P (getD ls p 0)) → All P ls
 all-from P [] h = tt
 all-from P (l ∷ ls) h = (h 0 (omega arith), all-from P ls (λ p k. h (suc p) (omega (arith, k))))
+
+-- a rightful log is one of merges of the table's terms
+formed : (ts : List Term) (A : ℕ → ℕ → ℕ → Type 0) (log : List Step) → Logged ts A log → Formed ts log
+formed ts A [] l = tt
+formed ts A (s ∷ older) (r, l) =
+    (record { left-in = r .left-in; right-in = r .right-in; order = r .order; ends = r .ends; rests-on = rests (s .reason) (r .rests-on) }, formed ts A older l)
+  where
+    rests : (x : Reason) → RestsOn ts A (label older) (s .left) (s .right) x → RestsOn ts (λ p a b. Unit {0}) (label older) (s .left) (s .right) x
+    rests Reason.Congruence c = c
+    rests (Reason.Asserted p) a = tt
 
 -- what the log of the first `k` literals is
 record Good (ts : List Term) (claims : List Claim) (ls : List ℕ) (k : ℕ) (log : List Step) : Type 0 where
@@ -112,7 +119,7 @@ record Good (ts : List Term) (claims : List Claim) (ls : List ℕ) (k : ℕ) (lo
 module _ (ts : List Term) (claims : List Claim) (named : Named ts claims) (ls : List ℕ) (proper : Proper (length claims) ls) where
 
   pair-in : (p : ℕ) → p < length ls → (pair-of claims (getD ls p 0) .left < length ts) × (pair-of claims (getD ls p 0) .right < length ts)
-  pair-in p h = named (claim (getD ls p 0)) (omega (arith, every-at (length claims) ls p (proper .below) h))
+  pair-in p h = named (claim (getD ls p 0)) (omega (arith, proper-at (length claims) ls p proper h))
 
   good-on : (k : ℕ) → k < length ls → (log : List Step) → Good ts claims ls k log → Good ts claims ls (suc k) (absorb ts claims k (getD ls k 0) log)
   good-on k h log g = go (eqb (getD ls k 0 % 2) 0) refl
@@ -152,6 +159,9 @@ module _ (ts : List Term) (claims : List Claim) (named : Named ts claims) (ls : 
 
   good : Good ts claims ls (length ls) (log-of ts claims ls)
   good = good-at (length ls) (omega arith)
+
+  pub formed-at-list : (k : ℕ) → k ≤ length ls → Formed ts (log-at ts claims ls k)
+  formed-at-list k h = formed ts (Asserts claims ls) (log-at ts claims ls k) (good-at k h .logged)
 
 -- ---- labels
 
@@ -308,3 +318,19 @@ stands ts claims few-ts lower few named =
       denial = λ ls ps p e. let w = split ls ps e in
         subst (OneDenial ls) (w .2) (one-denial ts claims named ls p lower (w .0) (denied ts claims named ls p lower (w .0) (w .1)));
     }
+
+-- the log of the first `k` literals rests on those alone
+pub log-at-same : (ts : List Term) (claims : List Claim) (ls ms : List ℕ) (k : ℕ) → ((p : ℕ) → p < k → getD ls p 0 ≡ getD ms p 0) → log-at ts claims ls k ≡ log-at ts claims ms k
+unfolding log-at
+log-at-same ts claims ls ms zero e = refl
+log-at-same ts claims ls ms (suc k) e =
+    ap (λ (l : ℕ). absorb ts claims k l (log-at ts claims ls k)) (e k (omega arith))
+    ∙ ap (absorb ts claims k (getD ms k 0)) (log-at-same ts claims ls ms k (λ p h. e p (omega arith)))
+
+pub log-at-more : (ts : List Term) (claims : List Claim) (ls : List ℕ) (k : ℕ) → absorb ts claims k (getD ls k 0) (log-at ts claims ls k) ≡ log-at ts claims ls (k + 1)
+unfolding log-at
+log-at-more ts claims ls k = ap (log-at ts claims ls) (sym (add-one k))
+
+pub log-at-none : (ts : List Term) (claims : List Claim) (ls : List ℕ) → settle ts (length ts) [] ≡ log-at ts claims ls 0
+unfolding log-at
+log-at-none ts claims ls = refl

@@ -1,3 +1,4 @@
 pub mod Index
 pub mod Logs
 pub mod Marked
+pub mod Asked
