@@ -6,7 +6,7 @@ use lib.ListN.{length, getD}
 use Rattle.theory.specs.declared.term.Term.{Term}
 use Rattle.congruence.specs.declared.step.Step.{Step}
 use Rattle.congruence.specs.declared.step.Reason.the-variants.{Congruence}
-use Rattle.congruence.specs.Merges.{label}
+use Rattle.congruence.specs.Merges.{label, settle}
 use Rattle.congruence.specs.Log.{Formed}
 
 abbrev pub step-at : List Step → ℕ → Step
@@ -42,3 +42,8 @@ pub record Ran (ts : List Term) (ss : List Step) (from : ℕ) (rs : List Step) (
   pub before : (j : ℕ) → j ≤ from → until rs j ≡ until ss j
   pub rise : from ≤ to
   pub ready : Ready ts rs to rows
+
+-- the merges that nothing asserted leads to
+pub record Closed (ts : List Term) (ss : List Step) (n : ℕ) (rows : List ℕ) : Type 0 where
+  pub log-is : until ss n ≡ settle ts (length ts) []
+  pub ready : Ready ts ss n rows

@@ -17,6 +17,14 @@ use theory::Literal;
 
 use crate::terms::Terms;
 
+/// A log of merges with its rows of labels, as it is first made.
+#[derive(Drop)]
+pub(crate) struct Closure {
+    pub(crate) steps: Vec<Step>,
+    pub(crate) rows: Vec<u16>,
+    pub(crate) count: u16,
+}
+
 /// The label of a term after the first `k` merges.
 pub(crate) fn label(rows: &[u16], k: usize, t: u16) -> u16
     requires { ⌜ k < 256 ⌝ ∗ ⌜ t < 256 ⌝ ∗ ⌜ 256 * k + t < length (now rows) ⌝ }

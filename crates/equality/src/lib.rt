@@ -1,5 +1,6 @@
 //! Equality over a table of terms, as a theory.
 
+pub(crate) mod check;
 pub(crate) mod closure;
 pub(crate) mod explain;
 pub(crate) mod index;
@@ -10,3 +11,4 @@ pub(crate) mod terms;
 
 pub use state::Equality;
 pub use state::calls::EqualityTheory;
+pub use state::make::make;

@@ -19,6 +19,7 @@ use theory::Literal;
 use crate::terms::Terms;
 
 pub mod calls;
+pub mod make;
 
 
 /// Equality over lent term and claim records.

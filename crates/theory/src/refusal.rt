@@ -1,6 +1,7 @@
 //! Why a call is refused, and what a query finds.
 ghost use mathlib.Core.Path.{_≡_};
 ghost use Rattle.theory.specs.Refusals.{number};
+ghost use Rattle.theory.specs.declared.refusal.Unmade.the-variants.{NoMemory};
 use std::alloc::AllocError;
 use std::fmt;
 
@@ -62,7 +63,11 @@ pub enum Unmade {
 }
 
 pub impl From<AllocError> for Unmade as UnmadeFromAllocError {
-    fn from(_e: AllocError) -> Unmade {
+    ghost converts = { λ _ r. r ≡ NoMemory };
+
+    fn from(_e: AllocError) -> Unmade
+        ensures { λ r. ⌜ r ≡ NoMemory ⌝ }
+    {
         Unmade::NoMemory
     }
 }
