@@ -12,7 +12,7 @@ use Rattle.theory.specs.declared.term.Term.{Term}
 use Rattle.congruence.specs.declared.claim.Claim.{Claim}
 use Rattle.congruence.specs.declared.step.Step.{Step}
 use Rattle.congruence.specs.Merges.{log-at}
-use Rattle.congruence.proofs.Law.{log-at-none}
+use Rattle.congruence.proofs.Law.{log-at-none, stands}
 use Rattle.equality.specs.Logs.{until, labelAt, cell, Closed}
 use Rattle.equality.proofs.state.make.build.Needs as need
 
@@ -51,3 +51,13 @@ ghost-result c =
     (logged ts claims list merges (vec-items steps) n (vec-items rows) w (m .1),
     ((λ k t p. w .ready .tabled k t (omega (arith, p .0, m .1)) (p .1)),
     (all-clear (vec-items marks) 256 clear, tt))))))))))))))))
+
+pub returns : need.returns
+returns c =
+    let p = c .pre in
+    (p, record {
+      terms-are = refl;
+      claims-are = refl;
+      nothing = refl;
+      stands = stands (c .args .terms .now) (c .args .claims .now) (p .limits .few-terms) (p .lower) (p .limits .few-claims) (p .named);
+    })
