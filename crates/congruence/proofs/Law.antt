@@ -79,13 +79,13 @@ module _ (claims : List Claim) (v : List ℤ) where
   unfolding Same
   one l = ⊎-elim
       (λ (e : l % 2 ≡ 0). ⊎-elim
-        (λ (h : Same claims v l). inl (to-even l e h))
-        (λ (h : Same claims v l → ⊥). inr (to-odd (complement l) (omega arith) (λ x. h (back l x))))
-        (same-or-not (num v (pair-of claims l .left)) (num v (pair-of claims l .right))))
+      (λ (h : Same claims v l). inl (to-even l e h))
+      (λ (h : Same claims v l → ⊥). inr (to-odd (complement l) (omega arith) (λ x. h (back l x))))
+      (same-or-not (num v (pair-of claims l .left)) (num v (pair-of claims l .right))))
       (λ (e : l % 2 ≡ 0 → ⊥). ⊎-elim
-        (λ (h : Same claims v l). inr (to-even (complement l) (omega arith) (over l h)))
-        (λ (h : Same claims v l → ⊥). inl (to-odd l (omega arith) h))
-        (same-or-not (num v (pair-of claims l .left)) (num v (pair-of claims l .right))))
+      (λ (h : Same claims v l). inr (to-even (complement l) (omega arith) (over l h)))
+      (λ (h : Same claims v l → ⊥). inl (to-odd l (omega arith) h))
+      (same-or-not (num v (pair-of claims l .left)) (num v (pair-of claims l .right))))
       (cases-eq (l % 2) 0)
 
   not-two : (l : ℕ) → Holds claims v l → Holds claims v (complement l) → ⊥
@@ -117,7 +117,6 @@ record Good (ts : List Term) (claims : List Claim) (ls : List ℕ) (k : ℕ) (lo
   equal : (p t u : ℕ) → p < k → Asserts claims ls p t u → label log t ≡ label log u
 
 module _ (ts : List Term) (claims : List Claim) (named : Named ts claims) (ls : List ℕ) (proper : Proper (length claims) ls) where
-
   pair-in : (p : ℕ) → p < length ls → (pair-of claims (getD ls p 0) .left < length ts) × (pair-of claims (getD ls p 0) .right < length ts)
   pair-in p h = named (claim (getD ls p 0)) (omega (arith, proper-at (length claims) ls p proper h))
 
@@ -126,29 +125,32 @@ module _ (ts : List Term) (claims : List Claim) (named : Named ts claims) (ls : 
     where
       after : List Step
       after = join ts (pair-of claims (getD ls k 0) .left) (pair-of claims (getD ls k 0) .right) (Reason.Asserted k) log
+
       go : (c : Bool) → eqb (getD ls k 0 % 2) 0 ≡ c → Good ts claims ls (suc k)
-        (cond c (join ts (pair-of claims (getD ls k 0) .left) (pair-of claims (getD ls k 0) .right) (Reason.Asserted k) log) log)
+          (cond c (join ts (pair-of claims (getD ls k 0) .left) (pair-of claims (getD ls k 0) .right) (Reason.Asserted k) log) log)
       go true e =
-        let here : Asserts claims ls k (pair-of claims (getD ls k 0) .left) (pair-of claims (getD ls k 0) .right) =
+          let here : Asserts claims ls k (pair-of claims (getD ls k 0) .left) (pair-of claims (getD ls k 0) .right) =
           record { within = h; even = eqb-true (getD ls k 0 % 2) 0 e; left-is = refl; right-is = refl } in
-        let w = joins ts (Asserts claims ls) (pair-of claims (getD ls k 0) .left) (pair-of claims (getD ls k 0) .right) (Reason.Asserted k) log
+          let w = joins ts (Asserts claims ls) (pair-of claims (getD ls k 0) .left) (pair-of claims (getD ls k 0) .right) (Reason.Asserted k) log
           (g .logged) (g .fit) (pair-in k h .0) (pair-in k h .1) here in
-        record
-          { logged = w .0 .logged
-          ; fit = w .0 .fit
-          ; equal = λ p t u p< x. ⊎-elim
-              (λ (q : p ≡ k).
+          record {
+            logged = w .0 .logged;
+            fit = w .0 .fit;
+            equal = λ p t u p< x. ⊎-elim
+                (λ (q : p ≡ k).
                 let y : Asserts claims ls k t u = subst (λ (n : ℕ). Asserts claims ls n t u) q x in
                 ap (label after) (sym (y .left-is)) ∙ w .1 ∙ ap (label after) (y .right-is))
-              (λ (q : p ≡ k → ⊥). w .0 .stays t u (g .equal p t u (omega arith) x))
-              (cases-eq p k) }
-      go false e = record
-          { logged = g .logged
-          ; fit = g .fit
-          ; equal = λ p t u p< x. ⊎-elim
-              (λ (q : p ≡ k). absurd (eqb-false (getD ls k 0 % 2) 0 e (subst (λ (n : ℕ). Asserts claims ls n t u) q x .even)))
-              (λ (q : p ≡ k → ⊥). g .equal p t u (omega arith) x)
-              (cases-eq p k) }
+                (λ (q : p ≡ k → ⊥). w .0 .stays t u (g .equal p t u (omega arith) x))
+                (cases-eq p k);
+          }
+      go false e = record {
+        logged = g .logged;
+        fit = g .fit;
+        equal = λ p t u p< x. ⊎-elim
+            (λ (q : p ≡ k). absurd (eqb-false (getD ls k 0 % 2) 0 e (subst (λ (n : ℕ). Asserts claims ls n t u) q x .even)))
+            (λ (q : p ≡ k → ⊥). g .equal p t u (omega arith) x)
+            (cases-eq p k);
+      }
 
   good-at : (k : ℕ) → k ≤ length ls → Good ts claims ls k (log-at ts claims ls k)
   unfolding log-at
@@ -163,30 +165,31 @@ module _ (ts : List Term) (claims : List Claim) (named : Named ts claims) (ls : 
   pub formed-at-list : (k : ℕ) → k ≤ length ls → Formed ts (log-at ts claims ls k)
   formed-at-list k h = formed ts (Asserts claims ls) (log-at ts claims ls k) (good-at k h .logged)
 
--- ---- labels
+  -- ---- labels
 
   module _ (lower : Lower ts) where
-
     one-label : (t u : ℕ) → t < length ts → u < length ts → label (log-of ts claims ls) t ≡ label (log-of ts claims ls) u
-      → Joined ts (At (Asserts claims ls) (λ p. needed ts (log-of ts claims ls) p t u)) t u
+        → Joined ts (At (Asserts claims ls) (λ p. needed ts (log-of ts claims ls) p t u)) t u
     one-label = explained ts (Asserts claims ls) lower (log-of ts claims ls) (good .logged)
 
     labelled : Labelled ts claims ls (label (log-of ts claims ls))
-    labelled = record
-        { joins = λ t u ht hu j. given j
-        ; only = only
-        ; own = λ t h. only t (label (log-of ts claims ls) t) h
-            (omega (arith, label-low ts (Asserts claims ls) (log-of ts claims ls) (good .logged) t))
-            (sym (label-root ts (Asserts claims ls) (log-of ts claims ls) (good .logged) t))
-        ; lowest = λ t u ht hu j. omega (arith, given j, label-low ts (Asserts claims ls) (log-of ts claims ls) (good .logged) u) }
+    labelled = record {
+      joins = λ t u ht hu j. given j;
+      only = only;
+      own = λ t h. only t (label (log-of ts claims ls) t) h
+          (omega (arith, label-low ts (Asserts claims ls) (log-of ts claims ls) (good .logged) t))
+          (sym (label-root ts (Asserts claims ls) (log-of ts claims ls) (good .logged) t));
+      lowest = λ t u ht hu j. omega (arith, given j, label-low ts (Asserts claims ls) (log-of ts claims ls) (good .logged) u);
+    }
       where
         given : {t u : ℕ} → Joined ts (Asserted claims ls) t u → label (log-of ts claims ls) t ≡ label (log-of ts claims ls) u
         given j = complete ts (Asserted claims ls) (label (log-of ts claims ls)) (good .fit) (λ t u a. good .equal (a .0) t u (a .1 .within) (a .1)) j
+
         only : (t u : ℕ) → t < length ts → u < length ts → label (log-of ts claims ls) t ≡ label (log-of ts claims ls) u → Joined ts (Asserted claims ls) t u
         only t u ht hu e =
-          widen ts (At (Asserts claims ls) (λ p. needed ts (log-of ts claims ls) p t u)) (Asserted claims ls) (λ x y a. (a .0, a .2)) (one-label t u ht hu e)
+            widen ts (At (Asserts claims ls) (λ p. needed ts (log-of ts claims ls) p t u)) (Asserted claims ls) (λ x y a. (a .0, a .2)) (one-label t u ht hu e)
 
--- ---- the fit that is written
+    -- ---- the fit that is written
 
     out : List ℤ
     out = row 0 (length ts) (λ t. pos (label (log-of ts claims ls) t))
@@ -204,29 +207,32 @@ module _ (ts : List Term) (claims : List Claim) (named : Named ts claims) (ls : 
 
     out-fit : Fit ts (num out)
     out-fit t u ht hu (s, a, args) =
-        same-out t u ht hu (good .fit t u ht hu
-          (s, a, λ i h.
-            let x : arg (at ts t) i < t = lower t ht i h in
-            let y : arg (at ts u) i < u = lower u hu i (omega (arith, a, h)) in
-            same-label (arg (at ts t) i) (arg (at ts u) i) (omega (arith, x, ht)) (omega (arith, y, hu)) (args i h)))
+        same-out t u ht hu (good .fit t u ht hu (
+          s,
+          a,
+          λ i h.
+              let x : arg (at ts t) i < t = lower t ht i h in
+              let y : arg (at ts u) i < u = lower u hu i (omega (arith, a, h)) in
+              same-label (arg (at ts t) i) (arg (at ts u) i) (omega (arith, x, ht)) (omega (arith, y, hu)) (args i h),
+        ))
 
     out-holds : clash ts claims ls ≡ None → (p : ℕ) → p < length ls → Holds claims out (getD ls p 0)
     unfolding Same
     out-holds e p h = ⊎-elim
         (λ (q : getD ls p 0 % 2 ≡ 0).
-          to-even claims out (getD ls p 0) q
-          (same-out _ _ (pair-in p h .0) (pair-in p h .1)
-            (good .equal p _ _ h (record { within = h; even = q; left-is = refl; right-is = refl }))))
+        to-even claims out (getD ls p 0) q
+        (same-out _ _ (pair-in p h .0) (pair-in p h .1)
+        (good .equal p _ _ h (record { within = h; even = q; left-is = refl; right-is = refl }))))
         (λ (q : getD ls p 0 % 2 ≡ 0 → ⊥).
-          to-odd claims out (getD ls p 0) (omega arith)
-          (λ x.
-            let y = when-none _ _ (not-found (length ls) (λ p. when (clashes (label (log-of ts claims ls)) claims (getD ls p 0)) p) e p h) in
-            let z : true ≡ false =
-              sym (and-from _ _ (not-from-false _ (ne-eqb (getD ls p 0 % 2) 0 q)) (eq-eqb _ _ (same-label _ _ (pair-in p h .0) (pair-in p h .1) x))) ∙ y in
-            let w : _≡_ {A = ℕ} 0 1 = cc in omega arith))
+        to-odd claims out (getD ls p 0) (omega arith)
+        (λ x.
+        let y = when-none _ _ (not-found (length ls) (λ p. when (clashes (label (log-of ts claims ls)) claims (getD ls p 0)) p) e p h) in
+        let z : true ≡ false =
+        sym (and-from _ _ (not-from-false _ (ne-eqb (getD ls p 0 % 2) 0 q)) (eq-eqb _ _ (same-label _ _ (pair-in p h .0) (pair-in p h .1) x))) ∙ y in
+        let w : _≡_ {A = ℕ} 0 1 = cc in omega arith))
         (cases-eq (getD ls p 0 % 2) 0)
 
--- ---- the core
+    -- ---- the core
 
     -- a denial on the list whose terms have one label
     record Denied (d : ℕ) : Type 0 where
@@ -251,37 +257,40 @@ module _ (ts : List Term) (claims : List Claim) (named : Named ts claims) (ls : 
     core-is-false d z v fit all =
         from-odd claims v (getD ls d 0) (z .odd) (at-each d (z .within) (or-left _ _ (eq-eqb d d refl)))
         (complete ts (At (Asserts claims ls) (λ p. needed ts (log-of ts claims ls) p (pair-of claims (getD ls d 0) .left) (pair-of claims (getD ls d 0) .right)))
-          (num v) fit
-          (λ t u a.
-            let y = from-even claims v (getD ls (a .0) 0) (a .2 .even) (at-each (a .0) (a .2 .within) (or-right (eqb d (a .0)) _ (a .1))) in
-            ap (num v) (sym (a .2 .left-is)) ∙ y ∙ ap (num v) (a .2 .right-is))
-          (one-label _ _ (pair-in d (z .within) .0) (pair-in d (z .within) .1) (z .one-class)))
+        (num v) fit
+        (λ t u a.
+        let y = from-even claims v (getD ls (a .0) 0) (a .2 .even) (at-each (a .0) (a .2 .within) (or-right (eqb d (a .0)) _ (a .1))) in
+        ap (num v) (sym (a .2 .left-is)) ∙ y ∙ ap (num v) (a .2 .right-is))
+        (one-label _ _ (pair-in d (z .within) .0) (pair-in d (z .within) .1) (z .one-class)))
       where
         at-each : (p : ℕ) → p < length ls → test d p ≡ true → Holds claims v (getD ls p 0)
         at-each p h e = listed-all (λ p. Holds claims v (getD ls p 0)) 0 (length ls) (test d) all p (omega arith) (omega arith) e
 
     one-denial : (d : ℕ) → Denied d → OneDenial ls (core ts claims ls d)
     unfolding test
-    one-denial d z = record
-        { place = d
-        ; there = listed-has 0 (length ls) (test d) d (omega arith) (omega (arith, z .within)) (or-left _ _ (eq-eqb d d refl))
-        ; denies = z .odd
-        ; others = λ p h ne. ⊎-elim
-            (λ x. absurd (ne (sym (eqb-true d p x))))
-            (λ x. needed-asserted ts (Asserts claims ls) p (log-of ts claims ls) (good .logged) _ _ x .2 .even)
-            (or-cases (eqb d p) _ (listed-only 0 (length ls) (test d) p h)) }
+    one-denial d z = record {
+      place = d;
+      there = listed-has 0 (length ls) (test d) d (omega arith) (omega (arith, z .within)) (or-left _ _ (eq-eqb d d refl));
+      denies = z .odd;
+      others = λ p h ne. ⊎-elim
+          (λ x. absurd (ne (sym (eqb-true d p x))))
+          (λ x. needed-asserted ts (Asserts claims ls) p (log-of ts claims ls) (good .logged) _ _ x .2 .even)
+          (or-cases (eqb d p) _ (listed-only 0 (length ls) (test d) p h));
+    }
 
     contradicted : (d : ℕ) → Denied d → Contradicted ts claims ls d
-    contradicted d z = record
-        { within = z .within; odd = z .odd
-        ; joined = labelled .only _ _ (pair-in d (z .within) .0) (pair-in d (z .within) .1) (z .one-class) }
+    contradicted d z = record {
+      within = z .within;
+      odd = z .odd;
+      joined = labelled .only _ _ (pair-in d (z .within) .0) (pair-in d (z .within) .1) (z .one-class);
+    }
 
     uncontradicted : clash ts claims ls ≡ None → (d : ℕ) → Contradicted ts claims ls d → ⊥
     uncontradicted e d x =
         let y = when-none _ _ (not-found (length ls) (λ p. when (clashes (label (log-of ts claims ls)) claims (getD ls p 0)) p) e d (x .within)) in
         let one-class = labelled .joins _ _ (pair-in d (x .within) .0) (pair-in d (x .within) .1) (x .joined) in
         let z : true ≡ false =
-          sym (and-from _ _ (not-from-false _ (ne-eqb (getD ls d 0 % 2) 0 (λ q. omega (arith, x .odd, q)))) (eq-eqb _ _ one-class)) ∙ y in
+        sym (and-from _ _ (not-from-false _ (ne-eqb (getD ls d 0 % 2) 0 (λ q. omega (arith, x .odd, q)))) (eq-eqb _ _ one-class)) ∙ y in
         let w : _≡_ {A = ℕ} 0 1 = cc in omega arith
 
 -- ---- the law
@@ -298,7 +307,7 @@ pub stands : Stands
 unfolding out
 stands ts claims few-ts lower few named =
     let split : (ls ps : List ℕ) → answer-of (core ts claims ls) (clash ts claims ls) ≡ impossible ps → (d : ℕ) × (clash ts claims ls ≡ Some d) × (core ts claims ls d ≡ ps) =
-        λ ls ps e. when-impossible (core ts claims ls) (clash ts claims ls) ps e in
+    λ ls ps e. when-impossible (core ts claims ls) (clash ts claims ls) ps e in
     record {
       law = record {
         few-claims = few;
@@ -309,14 +318,14 @@ stands ts claims few-ts lower few named =
         possible-holds = λ ls p e. all-from _ ls (out-holds ts claims named ls p lower (when-possible (core ts claims ls) (clash ts claims ls) e));
         core-rises = λ ls ps p e. let w = split ls ps e in subst (Rising (length ls)) (w .2) (listed-rises (length ls) _);
         core-fails = λ ls ps p e v f h. let w = split ls ps e in
-          core-is-false ts claims named ls p lower (w .0) (denied ts claims named ls p lower (w .0) (w .1)) v (f .1)
-          (subst (All (λ q. Holds claims v (getD ls q 0))) (sym (w .2)) h);
+            core-is-false ts claims named ls p lower (w .0) (denied ts claims named ls p lower (w .0) (w .1)) v (f .1)
+            (subst (All (λ q. Holds claims v (getD ls q 0))) (sym (w .2)) h);
       };
       labels = λ ls p. labelled ts claims named ls p lower;
       contradicted = λ ls ps p e. let w = split ls ps e in (w .0, contradicted ts claims named ls p lower (w .0) (denied ts claims named ls p lower (w .0) (w .1)));
       uncontradicted = λ ls p e d x. uncontradicted ts claims named ls p lower (when-possible (core ts claims ls) (clash ts claims ls) e) d x;
       denial = λ ls ps p e. let w = split ls ps e in
-        subst (OneDenial ls) (w .2) (one-denial ts claims named ls p lower (w .0) (denied ts claims named ls p lower (w .0) (w .1)));
+          subst (OneDenial ls) (w .2) (one-denial ts claims named ls p lower (w .0) (denied ts claims named ls p lower (w .0) (w .1)));
     }
 
 -- the log of the first `k` literals rests on those alone

@@ -27,7 +27,7 @@ found zero f x e = absurd (some-none (sym e))
 found {A} (suc n) f x e = go (found n f x) (first n f) refl e
   where
     go : (first n f ≡ Some x → (k : ℕ) × (k < n) × (f k ≡ Some x))
-      → (o : Option A) → first n f ≡ o → or-else o (f n) ≡ Some x → (k : ℕ) × (k < suc n) × (f k ≡ Some x)
+        → (o : Option A) → first n f ≡ o → or-else o (f n) ≡ Some x → (k : ℕ) × (k < suc n) × (f k ≡ Some x)
     go again (Some y) h e = let w = again (h ∙ e) in (w .0, omega (arith, w .1), w .2)
     go again None h e = (n, omega arith, e)
 
@@ -50,7 +50,7 @@ last-found zero f x e = absurd (some-none (sym e))
 last-found {A} (suc n) f x e = go (last-found n f x) (f n) refl e
   where
     go : (last n f ≡ Some x → (k : ℕ) × (k < n) × (f k ≡ Some x))
-      → (o : Option A) → f n ≡ o → or-else o (last n f) ≡ Some x → (k : ℕ) × (k < suc n) × (f k ≡ Some x)
+        → (o : Option A) → f n ≡ o → or-else o (last n f) ≡ Some x → (k : ℕ) × (k < suc n) × (f k ≡ Some x)
     go again (Some y) h e = (n, omega arith, h ∙ e)
     go again None h e = let w = again e in (w .0, omega (arith, w .1), w .2)
 
@@ -131,7 +131,7 @@ listed-rises n test = rising 0 n (listed 0 n test) (listed-from 0 n n test (omeg
 
 -- what holds of all that are listed holds of each number that passes the test
 pub listed-all : (P : ℕ → Type 0) (low count : ℕ) (test : ℕ → Bool) → All P (listed low count test)
-  → (k : ℕ) → low ≤ k → k < low + count → test k ≡ true → P k
+    → (k : ℕ) → low ≤ k → k < low + count → test k ≡ true → P k
 unfolding listed
 listed-all P low zero test h k a b e = absurd (omega arith)
 listed-all P low (suc count) test h k a b e = go (λ g i. listed-all P (low + 1) count test g k i (omega arith) e) (test low) refl h

@@ -23,4 +23,4 @@ pub data Joined (ts : List Term) (Given : ℕ → ℕ → Type 0) : ℕ → ℕ 
   by-sym : {t u : ℕ} → Joined ts Given t u → Joined ts Given u t
   by-trans : {t u v : ℕ} → Joined ts Given t u → Joined ts Given u v → Joined ts Given t v
   by-cong : (t u : ℕ) → t < length ts → u < length ts → at ts t .symbol ≡ at ts u .symbol → at ts t .arity ≡ at ts u .arity
-    → ((i : ℕ) → i < at ts t .arity → Joined ts Given (arg (at ts t) i) (arg (at ts u) i)) → Joined ts Given t u
+      → ((i : ℕ) → i < at ts t .arity → Joined ts Given (arg (at ts t) i) (arg (at ts u) i)) → Joined ts Given t u

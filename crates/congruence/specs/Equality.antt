@@ -55,7 +55,7 @@ equality ts claims = record {
   Admits = λ v. Fit ts (num v);
   Holds = λ l v. Says (l % 2) (num v (pair-of claims l .left)) (num v (pair-of claims l .right));
   answer = λ ls. answer-of (core ts claims ls) (clash ts claims ls);
-  written = λ ls. row 0 (length ts) (λ t. pos (label (log-of ts claims ls) t))
+  written = λ ls. row 0 (length ts) (λ t. pos (label (log-of ts claims ls) t));
 }
 
 -- each claim names two terms of the table

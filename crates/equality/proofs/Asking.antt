@@ -54,17 +54,17 @@ abbrev pub clash-by : (ℕ → ℕ) → List Claim → List ℕ → ℕ → Opti
 clash-by num claims ls p = when (clashes num claims (getD ls p 0)) p
 
 pub clash-same : (ts : List Term) (claims : List Claim) (ls : List ℕ) (ss : List Step) (rows : List ℕ) (n : ℕ) → Listed ts claims ls → Tabled ts rows ss n
-  → until ss n ≡ log-of ts claims ls → first (length ls) (clash-by (cell rows n) claims ls) ≡ clash ts claims ls
+    → until ss n ≡ log-of ts claims ls → first (length ls) (clash-by (cell rows n) claims ls) ≡ clash ts claims ls
 clash-same ts claims ls ss rows n named tabled e =
     first-same (length ls) _ _ (λ p h.
-      let k = named p h in
-      ap (λ b. when (not (eqb (getD ls p 0 % 2) 0) && b) p)
-      (ap (λ (x : ℕ). eqb x (cell rows n (pair-of claims (getD ls p 0) .right))) (tabled n _ (omega arith) (k .1)) ∙ ap (eqb (labelAt ss n (pair-of claims (getD ls p 0) .left))) (tabled n _ (omega arith) (k .2))))
+    let k = named p h in
+    ap (λ b. when (not (eqb (getD ls p 0 % 2) 0) && b) p)
+    (ap (λ (x : ℕ). eqb x (cell rows n (pair-of claims (getD ls p 0) .right))) (tabled n _ (omega arith) (k .1)) ∙ ap (eqb (labelAt ss n (pair-of claims (getD ls p 0) .left))) (tabled n _ (omega arith) (k .2))))
     ∙ ap (λ (l : List Step). first (length ls) (clash-by (label l) claims ls)) e
 
 -- a clash is at a position of the list, and its two terms have one label
 pub clash-at : (ts : List Term) (claims : List Claim) (ls : List ℕ) (d : ℕ) → clash ts claims ls ≡ Some d
-  → (d < length ls) × (label (log-of ts claims ls) (pair-of claims (getD ls d 0) .left) ≡ label (log-of ts claims ls) (pair-of claims (getD ls d 0) .right))
+    → (d < length ls) × (label (log-of ts claims ls) (pair-of claims (getD ls d 0) .left) ≡ label (log-of ts claims ls) (pair-of claims (getD ls d 0) .right))
 clash-at ts claims ls d e =
     let num = label (log-of ts claims ls) in
     let w = found (length ls) (clash-by num claims ls) d e in
@@ -92,19 +92,19 @@ covered-covers ss ms p long c =
 
 -- marks that grew from none cover just what passes the test
 pub covers-test : (ts : List Term) (ss : List Step) (ms ns : List Bool) (test : ℕ → Bool) (p : ℕ) → length ss ≡ 256 → ((k : ℕ) → getD ms k false ≡ false)
-  → Grown ts ss ms ns test → covers ss ns 256 p ≡ test p
+    → Grown ts ss ms ns test → covers ss ns 256 p ≡ test p
 covers-test ts ss ms ns test p long clear g = ⊎-elim
     (λ (e : test p ≡ true). covered-covers ss ns p long (g .all p e) ∙ sym e)
     (λ (e : test p ≡ false). ⊎-elim
-      (λ (q : covers ss ns 256 p ≡ true). ⊎-elim
-        (λ c. absurd (true≢false (sym (c .2) ∙ clear (c .0))))
-        (λ t. absurd (true≢false (sym t ∙ e)))
-        (g .only p (covers-covered ss ns p long q)))
-      (λ q. q ∙ sym e)
-      (cases-bool (covers ss ns 256 p)))
+    (λ (q : covers ss ns 256 p ≡ true). ⊎-elim
+    (λ c. absurd (true≢false (sym (c .2) ∙ clear (c .0))))
+    (λ t. absurd (true≢false (sym t ∙ e)))
+    (g .only p (covers-covered ss ns p long q)))
+    (λ q. q ∙ sym e)
+    (cases-bool (covers ss ns 256 p)))
     (cases-bool (test p))
 
 -- the row that is put down by what is cited is that by what is needed
 pub cited-listed : (cited : List Bool) (d len : ℕ) (test : ℕ → Bool) → len ≤ length cited → ((p : ℕ) → p < length cited → getD cited p false ≡ test p)
-  → listed 0 len (λ p. eqb d p || getD cited p false) ≡ listed 0 len (λ p. eqb d p || test p)
+    → listed 0 len (λ p. eqb d p || getD cited p false) ≡ listed 0 len (λ p. eqb d p || test p)
 cited-listed cited d len test h e = listed-same 0 len _ _ (λ p a b. ap (λ x. eqb d p || x) (e p (omega arith)))

@@ -119,22 +119,22 @@ module _ (ts : List Term) (claims : List Claim) (list : List ℕ) (len : ℕ) (m
     logged-more : (k : ℕ) → k ≤ len + 1 → until rs (getD (set merges (len + 1) r) k 0) ≡ log-at ts claims (set list len l) k
     logged-more k a = ⊎-elim
         (λ (e : k ≡ len + 1).
-          ap (λ (j : ℕ). until rs (getD (set merges (len + 1) r) j 0)) e ∙ ap (until rs) here ∙ ran .log-is
-          ∙ ap (absorb ts claims len l) (h .logged len (omega arith) ∙ same-log len (omega arith))
-          ∙ ap (λ (x : ℕ). absorb ts claims len x (log-at ts claims (set list len l) len)) (sym (getD-set-same list len l 0 (omega (arith, held-room, h .list-long))))
-          ∙ log-at-more ts claims (set list len l) len ∙ ap (log-at ts claims (set list len l)) (sym e))
+        ap (λ (j : ℕ). until rs (getD (set merges (len + 1) r) j 0)) e ∙ ap (until rs) here ∙ ran .log-is
+        ∙ ap (absorb ts claims len l) (h .logged len (omega arith) ∙ same-log len (omega arith))
+        ∙ ap (λ (x : ℕ). absorb ts claims len x (log-at ts claims (set list len l) len)) (sym (getD-set-same list len l 0 (omega (arith, held-room, h .list-long))))
+        ∙ log-at-more ts claims (set list len l) len ∙ ap (log-at ts claims (set list len l)) (sym e))
         (λ (e : k ≡ len + 1 → ⊥).
-          ap (until rs) (before-same k (omega arith)) ∙ ran .before (getD merges k 0) (h .rising k len (omega arith) (omega arith))
-          ∙ h .logged k (omega arith) ∙ same-log k (omega arith))
+        ap (until rs) (before-same k (omega arith)) ∙ ran .before (getD merges k 0) (h .rising k len (omega arith) (omega arith))
+        ∙ h .logged k (omega arith) ∙ same-log k (omega arith))
         (cases-eq k (len + 1))
 
     rising-more : (j k : ℕ) → j ≤ k → k ≤ len + 1 → getD (set merges (len + 1) r) j 0 ≤ getD (set merges (len + 1) r) k 0
     rising-more j k a b = ⊎-elim
         (λ (e : k ≡ len + 1). ⊎-elim
-          (λ (f : j ≡ len + 1). omega (arith, ap (λ (x : ℕ). getD (set merges (len + 1) r) x 0) (f ∙ sym e)))
-          (λ (f : j ≡ len + 1 → ⊥).
-            omega (arith, ap (λ (x : ℕ). getD (set merges (len + 1) r) x 0) e, here, before-same j (omega arith), h .rising j len (omega arith) (omega arith), ran .rise))
-          (cases-eq j (len + 1)))
+        (λ (f : j ≡ len + 1). omega (arith, ap (λ (x : ℕ). getD (set merges (len + 1) r) x 0) (f ∙ sym e)))
+        (λ (f : j ≡ len + 1 → ⊥).
+        omega (arith, ap (λ (x : ℕ). getD (set merges (len + 1) r) x 0) e, here, before-same j (omega arith), h .rising j len (omega arith) (omega arith), ran .rise))
+        (cases-eq j (len + 1)))
         (λ (e : k ≡ len + 1 → ⊥). omega (arith, before-same j (omega arith), before-same k (omega arith), h .rising j k a (omega arith)))
         (cases-eq k (len + 1))
 
@@ -172,7 +172,7 @@ pub record Read (ts : List Term) (claims : List Claim) (ls : List ℕ) (ss : Lis
   pub rows-long : length rows ≡ 256 * length ts
 
 pub read : (s : Equality) (n : ℕ) (list : List ℕ) (ss : List Step) (rows : List ℕ) → list ≡ vec-items (s .list) → ss ≡ vec-items (s .steps) → rows ≡ vec-items (s .rows)
-  → n ≡ getD (vec-items (s .merges)) (s .len) n → Read (s .terms .records .now) (s .claims .now) (take (s .len - 0) list) ss rows n
+    → n ≡ getD (vec-items (s .merges)) (s .len) n → Read (s .terms .records .now) (s .claims .now) (take (s .len - 0) list) ss rows n
 read s n list ss rows el es er en =
     subst (λ (k : ℕ). Read ts claims (take k list) ss rows n) (let z : s .len ≡ s .len - 0 = omega arith in z)
     (subst (λ (x : List ℕ). Read ts claims (take (s .len) x) ss rows n) (sym el)
@@ -192,14 +192,19 @@ read s n list ss rows el es er en =
   where
     ts : List Term
     ts = s .terms .records .now
+
     claims : List Claim
     claims = s .claims .now
+
     front : List ℕ
     front = take (s .len) (vec-items (s .list))
+
     h : Held (s .terms .records .now) (s .claims .now) (vec-items (s .list)) (s .len) (vec-items (s .merges)) (vec-items (s .steps)) (vec-items (s .rows))
     h = held s
+
     long : length (take (s .len) (vec-items (s .list))) ≡ s .len
     long = front-long (s .terms .records .now) (s .claims .now) (vec-items (s .list)) (s .len) (vec-items (s .merges)) (vec-items (s .steps)) (vec-items (s .rows)) h
+
     ready : Ready (s .terms .records .now) (vec-items (s .steps)) (getD (vec-items (s .merges)) (s .len) 0) (vec-items (s .rows))
     ready = held-ready (s .terms .records .now) (s .claims .now) (vec-items (s .list)) (s .len) (vec-items (s .merges)) (vec-items (s .steps)) (vec-items (s .rows)) h
 

@@ -29,30 +29,36 @@ pub record Partly (row : List ℕ) (p len : ℕ) (test : ℕ → Bool) (old new 
   pub long : length new ≡ length old
 
 pub partly-put : (row : List ℕ) (p len : ℕ) (test : ℕ → Bool) (old new : List ℕ) (n : ℕ) → p < len → len ≤ length old → test p ≡ true
-  → Partly row p len test old new n → Partly row (p + 1) len test old (set new n p) (n + 1)
-partly-put row p len test old new n h w e x = record
-    { before = sym (put-more (listed (p + 1) (len - (p + 1)) test)) ∙ ap (λ (l : List ℕ). take n new ++ l) (sym here) ∙ x .before
-    ; rest = drop-set-lt (n + 1) new n p (omega arith) ∙ sym (again new) ∙ ap (drop 1) (x .rest) ∙ again old
-    ; few = omega (arith, x .few)
-    ; long = length-set new n p ∙ x .long }
+    → Partly row p len test old new n → Partly row (p + 1) len test old (set new n p) (n + 1)
+partly-put row p len test old new n h w e x = record {
+  before = sym (put-more (listed (p + 1) (len - (p + 1)) test)) ∙ ap (λ (l : List ℕ). take n new ++ l) (sym here) ∙ x .before;
+  rest = drop-set-lt (n + 1) new n p (omega arith) ∙ sym (again new) ∙ ap (drop 1) (x .rest) ∙ again old;
+  few = omega (arith, x .few);
+  long = length-set new n p ∙ x .long;
+}
   where
     here : listed p (len - p) test ≡ p ∷ listed (p + 1) (len - (p + 1)) test
     here = listed-more p (len - p) test (omega arith) ∙ ap (λ b. put b p (listed (p + 1) ((len - p) - 1) test)) e
-      ∙ ap (λ (k : ℕ). p ∷ listed (p + 1) k test) (let z : (len - p) - 1 ≡ len - (p + 1) = omega arith in z)
+        ∙ ap (λ (k : ℕ). p ∷ listed (p + 1) k test) (let z : (len - p) - 1 ≡ len - (p + 1) = omega arith in z)
+
     put-more : (l : List ℕ) → take n new ++ (p ∷ l) ≡ take (n + 1) (set new n p) ++ l
     put-more l = sym (append-assoc (take n new) (p ∷ []) l) ∙ ap (λ z. z ++ l) (sym (take-more-set new n p (omega (arith, x .few, x .long))))
+
     again : (l : List ℕ) → drop 1 (drop n l) ≡ drop (n + 1) l
     again l = drop-drop 1 n l
 
 pub partly-skip : (row : List ℕ) (p len : ℕ) (test : ℕ → Bool) (old new : List ℕ) (n : ℕ) → p < len → test p ≡ false
-  → Partly row p len test old new n → Partly row (p + 1) len test old new n
-partly-skip row p len test old new n h e x = record
-    { before = ap (λ (l : List ℕ). take n new ++ l) (sym here) ∙ x .before
-    ; rest = x .rest; few = omega (arith, x .few); long = x .long }
+    → Partly row p len test old new n → Partly row (p + 1) len test old new n
+partly-skip row p len test old new n h e x = record {
+  before = ap (λ (l : List ℕ). take n new ++ l) (sym here) ∙ x .before;
+  rest = x .rest;
+  few = omega (arith, x .few);
+  long = x .long;
+}
   where
     here : listed p (len - p) test ≡ listed (p + 1) (len - (p + 1)) test
     here = listed-more p (len - p) test (omega arith) ∙ ap (λ b. put b p (listed (p + 1) ((len - p) - 1) test)) e
-      ∙ ap (λ (k : ℕ). listed (p + 1) k test) (let z : (len - p) - 1 ≡ len - (p + 1) = omega arith in z)
+        ∙ ap (λ (k : ℕ). listed (p + 1) k test) (let z : (len - p) - 1 ≡ len - (p + 1) = omega arith in z)
 
 pub partly-start : (len : ℕ) (test : ℕ → Bool) (old : List ℕ) → Partly (listed 0 len test) 0 len test old old 0
 partly-start len test old = record { before = ap (λ (k : ℕ). listed 0 k test) (let z : len - 0 ≡ len = omega arith in z); rest = refl; few = omega arith; long = refl }
@@ -63,13 +69,15 @@ pub record Put (row old new : List ℕ) (r : ℕ) : Type 0 where
   pub place : new ≡ over row old
 
 pub partly-end : (row : List ℕ) (p len : ℕ) (test : ℕ → Bool) (old new : List ℕ) (n : ℕ) → len ≤ p → len ≤ length old → p ≤ len
-  → Partly row p len test old new n → Put row old new n
-partly-end row p len test old new n a w b x = record
-    { told = size
-    ; place = sym (take-append-drop n new) ∙ ap (λ (l : List ℕ). l ++ drop n new) is ∙ ap (λ (l : List ℕ). row ++ l) (x .rest ∙ ap (λ (k : ℕ). drop k old) size) }
+    → Partly row p len test old new n → Put row old new n
+partly-end row p len test old new n a w b x = record {
+  told = size;
+  place = sym (take-append-drop n new) ∙ ap (λ (l : List ℕ). l ++ drop n new) is ∙ ap (λ (l : List ℕ). row ++ l) (x .rest ∙ ap (λ (k : ℕ). drop k old) size);
+}
   where
     is : take n new ≡ row
     is = sym (append-nil (take n new)) ∙ ap (λ (l : List ℕ). take n new ++ l) (sym (listed-end p (len - p) test (omega arith))) ∙ x .before
+
     size : n ≡ length row
     size = sym (length-take-le n new (omega (arith, x .few, x .long))) ∙ ap length is
 

@@ -46,17 +46,17 @@ last-same (suc n) f g h = ap (λ o. or-else o (last n f)) (h n (omega arith)) �
 
 -- what is found, with nothing above it
 last-top : {A : Type 0} (n : ℕ) (f : ℕ → Option A) (x : A) → last n f ≡ Some x
-  → (k : ℕ) × (k < n) × (f k ≡ Some x) × ((w : ℕ) → k < w → w < n → f w ≡ None)
+    → (k : ℕ) × (k < n) × (f k ≡ Some x) × ((w : ℕ) → k < w → w < n → f w ≡ None)
 unfolding last
 last-top {A} zero f x e = absurd (let z : _≡_ {A = ℕ} 0 1 = cc in omega arith)
 last-top {A} (suc n) f x e = go (last-top n f x) (f n) refl e
   where
     go : (last n f ≡ Some x → (k : ℕ) × (k < n) × (f k ≡ Some x) × ((w : ℕ) → k < w → w < n → f w ≡ None))
-      → (o : Option A) → f n ≡ o → or-else o (last n f) ≡ Some x → (k : ℕ) × (k < suc n) × (f k ≡ Some x) × ((w : ℕ) → k < w → w < suc n → f w ≡ None)
+        → (o : Option A) → f n ≡ o → or-else o (last n f) ≡ Some x → (k : ℕ) × (k < suc n) × (f k ≡ Some x) × ((w : ℕ) → k < w → w < suc n → f w ≡ None)
     go again (Some y) h e = (n, omega arith, h ∙ e, λ w a b. absurd (omega arith))
     go again None h e =
-      let r = again e in
-      (r .0, omega (arith, r .1), r .2, λ w a b. ⊎-elim (λ (q : w ≡ n). ap f q ∙ h) (λ (q : w ≡ n → ⊥). r .3 w a (omega arith)) (cases-eq w n))
+        let r = again e in
+        (r .0, omega (arith, r .1), r .2, λ w a b. ⊎-elim (λ (q : w ≡ n). ap f q ∙ h) (λ (q : w ≡ n → ⊥). r .3 w a (omega arith)) (cases-eq w n))
 
 -- ---- heads
 
@@ -80,29 +80,34 @@ nearest-is ts t = go (last t (λ u. when (sameHead ts t u) u)) refl
   where
     other : (w : ℕ) → when (sameHead ts t w) w ≡ None → SameHead ts t w → ⊥
     other w e h = let z : true ≡ false = sym (head-from ts t w h) ∙ when-none (sameHead ts t w) w e in let y : _≡_ {A = ℕ} 0 1 = cc in omega arith
+
     go : (o : Option ℕ) → last t (λ u. when (sameHead ts t u) u) ≡ o → Near ts t (valueOr o t)
-    go None e = record
-        { low = omega arith; head = (refl, refl)
-        ; between = λ w a b h. absurd (omega arith)
-        ; none = λ q w b h. other w (last-not-found t (λ u. when (sameHead ts t u) u) e w b) h }
+    go None e = record {
+      low = omega arith;
+      head = (refl, refl);
+      between = λ w a b h. absurd (omega arith);
+      none = λ q w b h. other w (last-not-found t (λ u. when (sameHead ts t u) u) e w b) h;
+    }
     go (Some u) e =
-      let r = last-top t (λ u. when (sameHead ts t u) u) u e in
-      let x = when-some (sameHead ts t (r .0)) (r .0) u (r .2) in
-      subst (Near ts t) (x .1) (record
-        { low = omega (arith, r .1); head = head-true ts t (r .0) (x .0)
-        ; between = λ w a b h. other w (r .3 w a b) h
-        ; none = λ q w b h. absurd (omega (arith, r .1)) })
+        let r = last-top t (λ u. when (sameHead ts t u) u) u e in
+        let x = when-some (sameHead ts t (r .0)) (r .0) u (r .2) in
+        subst (Near ts t) (x .1) (record {
+          low = omega (arith, r .1);
+          head = head-true ts t (r .0) (x .0);
+          between = λ w a b h. other w (r .3 w a b) h;
+          none = λ q w b h. absurd (omega (arith, r .1));
+        })
 
 -- ---- the search for it, downward
 
 pub nearest-hit : (ts : List Term) (t u : ℕ) → 0 < u → last t (λ x. when (sameHead ts t x) x) ≡ last u (λ x. when (sameHead ts t x) x)
-  → sameHead ts t (u - 1) ≡ true → u - 1 ≡ nearest ts t
+    → sameHead ts t (u - 1) ≡ true → u - 1 ≡ nearest ts t
 nearest-hit ts t u h e k =
     sym (ap (λ o. valueOr o t) (e ∙ ap (λ (n : ℕ). last n (λ x. when (sameHead ts t x) x)) (let z : u ≡ (u - 1) + 1 = omega arith in z)
-      ∙ last-here (u - 1) (λ x. when (sameHead ts t x) x) (u - 1) (ap (λ b. when b (u - 1)) k)))
+    ∙ last-here (u - 1) (λ x. when (sameHead ts t x) x) (u - 1) (ap (λ b. when b (u - 1)) k)))
 
 pub nearest-past : (ts : List Term) (t u : ℕ) → 0 < u → sameHead ts t (u - 1) ≡ false
-  → last u (λ x. when (sameHead ts t x) x) ≡ last (u - 1) (λ x. when (sameHead ts t x) x)
+    → last u (λ x. when (sameHead ts t x) x) ≡ last (u - 1) (λ x. when (sameHead ts t x) x)
 nearest-past ts t u h k =
     ap (λ (n : ℕ). last n (λ x. when (sameHead ts t x) x)) (let z : u ≡ (u - 1) + 1 = omega arith in z)
     ∙ last-past (u - 1) (λ x. when (sameHead ts t x) x) (ap (λ b. when b (u - 1)) k)

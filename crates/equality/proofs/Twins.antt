@@ -79,19 +79,21 @@ pub twins-same : (ts : List Term) (num mun : ℕ → ℕ) (t : ℕ) → Lower ts
 twins-same ts num mun t lower ht e = last-same t (twin-at ts num t) (twin-at ts mun t) (λ u h. same u (omega arith))
   where
     args : (u : ℕ) → u < length ts → at ts t .arity ≡ at ts u .arity → (i : ℕ) → i < at ts t .arity
-      → eqb (num (arg (at ts t) i)) (num (arg (at ts u) i)) ≡ eqb (mun (arg (at ts t) i)) (mun (arg (at ts u) i))
+        → eqb (num (arg (at ts t) i)) (num (arg (at ts u) i)) ≡ eqb (mun (arg (at ts t) i)) (mun (arg (at ts u) i))
     args u hu a i h =
-      let x : arg (at ts t) i < t = lower t ht i h in
-      let y : arg (at ts u) i < u = lower u hu i (omega (arith, a, h)) in
-      ap (λ (n : ℕ). eqb n (num (arg (at ts u) i))) (e (arg (at ts t) i) (omega (arith, x, ht))) ∙ ap (eqb (mun (arg (at ts t) i))) (e (arg (at ts u) i) (omega (arith, y, hu)))
+        let x : arg (at ts t) i < t = lower t ht i h in
+        let y : arg (at ts u) i < u = lower u hu i (omega (arith, a, h)) in
+        ap (λ (n : ℕ). eqb n (num (arg (at ts u) i))) (e (arg (at ts t) i) (omega (arith, x, ht))) ∙ ap (eqb (mun (arg (at ts t) i))) (e (arg (at ts u) i) (omega (arith, y, hu)))
+
     like : (u : ℕ) → u < length ts → alike ts num t u ≡ alike ts mun t u
     like u hu = ⊎-elim
-      (λ (q : at ts t .arity ≡ at ts u .arity).
+        (λ (q : at ts t .arity ≡ at ts u .arity).
         ap (λ b. eqb (at ts t .symbol) (at ts u .symbol) && (eqb (at ts t .arity) (at ts u .arity) && b)) (every-same (at ts t .arity) _ _ (args u hu q)))
-      (λ (q : at ts t .arity ≡ at ts u .arity → ⊥).
+        (λ (q : at ts t .arity ≡ at ts u .arity → ⊥).
         and-right (eqb (at ts t .symbol) (at ts u .symbol)) _ (and-left _ _ (ne-eqb _ _ q)) ∙ sym (and-right (eqb (at ts t .symbol) (at ts u .symbol)) _ (and-left _ _ (ne-eqb _ _ q))))
-      (cases-eq (at ts t .arity) (at ts u .arity))
+        (cases-eq (at ts t .arity) (at ts u .arity))
+
     same : (u : ℕ) → u < length ts → twin-at ts num t u ≡ twin-at ts mun t u
     same u hu =
-      ap (λ b. when (not b && alike ts num t u) u) (ap (λ (n : ℕ). eqb n (num u)) (e t ht) ∙ ap (eqb (mun t)) (e u hu))
-      ∙ ap (λ b. when (not (eqb (mun t) (mun u)) && b) u) (like u hu)
+        ap (λ b. when (not b && alike ts num t u) u) (ap (λ (n : ℕ). eqb n (num u)) (e t ht) ∙ ap (eqb (mun t)) (e u hu))
+        ∙ ap (λ b. when (not (eqb (mun t) (mun u)) && b) u) (like u hu)

@@ -7,7 +7,6 @@ ghost use Rattle.theory.specs.Refusals.{number};
 ghost use Rattle.congruence.specs.Table.{Arities, Lower};
 ghost use Rattle.congruence.specs.Equality.{Named};
 ghost use Rattle.equality.specs.Checks.{Limits, Sound, Barred};
-
 use congruence::Claim;
 use theory::Refusal;
 use theory::Term;
@@ -54,9 +53,7 @@ fn named_terms(terms: &[Term], claims: &[Claim]) -> bool
 
 /// Checks records for a theory: each cause of refusal over the whole input before the next.
 pub(crate) fn check(terms: &[Term], claims: &[Claim]) -> Result<(), Refusal>
-    ensures {
-        λ r. ⌜ Cases r (λ _. Sound (now (terms .entry)) (now (claims .entry))) (λ e. Barred (now (terms .entry)) (now (claims .entry)) (number e)) ⌝
-    }
+    ensures { λ r. ⌜ Cases r (λ _. Sound (now (terms .entry)) (now (claims .entry))) (λ e. Barred (now (terms .entry)) (now (claims .entry)) (number e)) ⌝ }
 {
     if terms.len() > 256 || claims.len() > 128 || !few_arguments(terms) {
         return Err(Refusal::PastLimit);

@@ -9,13 +9,11 @@ ghost use Rattle.congruence.specs.Table.{at, arg};
 ghost use Rattle.congruence.specs.Merges.{relabel, twin, merge, pass, sweep, settle, absorb, pair-of};
 ghost use Rattle.equality.specs.Index.{SameHead, Indexed};
 ghost use Rattle.equality.specs.Logs.{until, cell, Tabled, Ready, Ran};
-
+use crate::terms::Terms;
 use congruence::Claim;
 use congruence::Reason;
 use congruence::Step;
 use theory::Literal;
-
-use crate::terms::Terms;
 
 /// A log of merges with its rows of labels, as it is first made.
 #[derive(Drop)]
@@ -38,10 +36,8 @@ fn same_arguments(terms: &Terms, rows: &[u16], k: usize, t: u16, u: u16) -> bool
     requires row { ⌜ k < 256 ⌝ ∗ ⌜ 256 * (k + 1) ≤ length (now rows) ⌝ }
     requires terms { ⌜ t < length (now (now terms .records)) ⌝ ∗ ⌜ u < length (now (now terms .records)) ⌝ }
     requires head { ⌜ SameHead (now (now terms .records)) t u ⌝ }
-    ensures {
-        λ r. ⌜ Decides r ((i : ℕ) → i < at (now (now (terms .entry) .records)) t .arity
-            → cell (now (rows .entry)) k (arg (at (now (now (terms .entry) .records)) t) i) ≡ cell (now (rows .entry)) k (arg (at (now (now (terms .entry) .records)) u) i)) ⌝
-    }
+    ensures { λ r. ⌜ Decides r ((i : ℕ) → i < at (now (now (terms .entry) .records)) t .arity
+        → cell (now (rows .entry)) k (arg (at (now (now (terms .entry) .records)) t) i) ≡ cell (now (rows .entry)) k (arg (at (now (now (terms .entry) .records)) u) i)) ⌝ }
 {
     let x = terms.records[t as usize];
     let y = terms.records[u as usize];
@@ -96,7 +92,15 @@ fn rename(rows: &mut [u16], k: usize, m: usize, high: u16, low: u16)
 }
 
 /// Merges the classes of two terms, and writes that into the log.
-fn merge(terms: &Terms, steps: &mut [Step], count: usize, rows: &mut [u16], a: u16, b: u16, reason: Reason)
+fn merge(
+    terms: &Terms,
+    steps: &mut [Step],
+    count: usize,
+    rows: &mut [u16],
+    a: u16,
+    b: u16,
+    reason: Reason,
+)
     requires room { ⌜ count + 1 < length (now (now terms .records)) ⌝ ∗ ⌜ length (now steps) ≡ 256 ⌝ ∗ ⌜ length (now rows) ≡ 256 * length (now (now terms .records)) ⌝ }
     requires tabled { ⌜ Tabled (now (now terms .records)) (now rows) (now steps) count ⌝ }
     requires left { ⌜ a < length (now (now terms .records)) ⌝ }
@@ -110,20 +114,31 @@ fn merge(terms: &Terms, steps: &mut [Step], count: usize, rows: &mut [u16], a: u
     let y = label(rows, count, b);
     let high = x.max(y);
     let low = x.min(y);
-    steps[count] = Step { left: a, right: b, high, low, reason };
+    steps[count] = Step {
+        left: a,
+        right: b,
+        high,
+        low,
+        reason,
+    };
     rename(rows, count, terms.records.len(), high, low);
 }
 
 /// Merges a term with its twin, if it has one, and returns the number of merges.
-fn pass(terms: &Terms, near: &[u16], steps: &mut [Step], count: usize, rows: &mut [u16], t: u16) -> usize
+fn pass(
+    terms: &Terms,
+    near: &[u16],
+    steps: &mut [Step],
+    count: usize,
+    rows: &mut [u16],
+    t: u16,
+) -> usize
     requires ready { ⌜ Ready (now (now terms .records)) (now steps) count (now rows) ⌝ }
     requires term { ⌜ t < length (now (now terms .records)) ⌝ }
     requires long { ⌜ length (now near) ≡ length (now (now terms .records)) ⌝ }
     requires indexed { ⌜ Indexed (now (now terms .records)) (now near) ⌝ }
-    ensures {
-        λ r. ⌜ Ran (now (now (terms .entry) .records)) (now (steps .entry)) count (now (steps .exit)) r (now (rows .exit))
-            (pass (now (now (terms .entry) .records)) t (until (now (steps .entry)) count)) ⌝
-    }
+    ensures { λ r. ⌜ Ran (now (now (terms .entry) .records)) (now (steps .entry)) count (now (steps .exit)) r (now (rows .exit))
+        (pass (now (now (terms .entry) .records)) t (until (now (steps .entry)) count)) ⌝ }
 {
     match twin(terms, near, rows, count, t) {
         None => count,
@@ -139,10 +154,8 @@ fn sweep(terms: &Terms, near: &[u16], steps: &mut [Step], from: usize, rows: &mu
     requires ready { ⌜ Ready (now (now terms .records)) (now steps) from (now rows) ⌝ }
     requires long { ⌜ length (now near) ≡ length (now (now terms .records)) ⌝ }
     requires indexed { ⌜ Indexed (now (now terms .records)) (now near) ⌝ }
-    ensures {
-        λ r. ⌜ Ran (now (now (terms .entry) .records)) (now (steps .entry)) from (now (steps .exit)) r (now (rows .exit))
-            (sweep (now (now (terms .entry) .records)) (length (now (now (terms .entry) .records))) (until (now (steps .entry)) from)) ⌝
-    }
+    ensures { λ r. ⌜ Ran (now (now (terms .entry) .records)) (now (steps .entry)) from (now (steps .exit)) r (now (rows .exit))
+        (sweep (now (now (terms .entry) .records)) (length (now (now (terms .entry) .records))) (until (now (steps .entry)) from)) ⌝ }
 {
     let mut count = from;
     for t in 0..terms.records.len() as u16 {
@@ -152,14 +165,18 @@ fn sweep(terms: &Terms, near: &[u16], steps: &mut [Step], from: usize, rows: &mu
 }
 
 /// Sweeps until nothing is merged, and returns the number of merges.
-pub(crate) fn settle(terms: &Terms, near: &[u16], steps: &mut [Step], from: usize, rows: &mut [u16]) -> usize
+pub(crate) fn settle(
+    terms: &Terms,
+    near: &[u16],
+    steps: &mut [Step],
+    from: usize,
+    rows: &mut [u16],
+) -> usize
     requires ready { ⌜ Ready (now (now terms .records)) (now steps) from (now rows) ⌝ }
     requires long { ⌜ length (now near) ≡ length (now (now terms .records)) ⌝ }
     requires indexed { ⌜ Indexed (now (now terms .records)) (now near) ⌝ }
-    ensures {
-        λ r. ⌜ Ran (now (now (terms .entry) .records)) (now (steps .entry)) from (now (steps .exit)) r (now (rows .exit))
-            (settle (now (now (terms .entry) .records)) (length (now (now (terms .entry) .records))) (until (now (steps .entry)) from)) ⌝
-    }
+    ensures { λ r. ⌜ Ran (now (now (terms .entry) .records)) (now (steps .entry)) from (now (steps .exit)) r (now (rows .exit))
+        (settle (now (now (terms .entry) .records)) (length (now (now (terms .entry) .records))) (until (now (steps .entry)) from)) ⌝ }
 {
     let mut count = from;
     let mut left = terms.records.len();
@@ -175,17 +192,24 @@ pub(crate) fn settle(terms: &Terms, near: &[u16], steps: &mut [Step], from: usiz
 }
 
 /// Closes the classes again after the literal `l` was put at position `p`.
-pub(crate) fn absorb(terms: &Terms, claims: &[Claim], near: &[u16], steps: &mut [Step], from: usize, rows: &mut [u16], p: u16, l: Literal) -> usize
+pub(crate) fn absorb(
+    terms: &Terms,
+    claims: &[Claim],
+    near: &[u16],
+    steps: &mut [Step],
+    from: usize,
+    rows: &mut [u16],
+    p: u16,
+    l: Literal,
+) -> usize
     requires ready { ⌜ Ready (now (now terms .records)) (now steps) from (now rows) ⌝ }
     requires long { ⌜ length (now near) ≡ length (now (now terms .records)) ⌝ }
     requires indexed { ⌜ Indexed (now (now terms .records)) (now near) ⌝ }
     requires known { ⌜ claim l < length (now claims) ⌝ }
     requires left { ⌜ pair-of (now claims) l .left < length (now (now terms .records)) ⌝ }
     requires right { ⌜ pair-of (now claims) l .right < length (now (now terms .records)) ⌝ }
-    ensures {
-        λ r. ⌜ Ran (now (now (terms .entry) .records)) (now (steps .entry)) from (now (steps .exit)) r (now (rows .exit))
-            (absorb (now (now (terms .entry) .records)) (now (claims .entry)) p l (until (now (steps .entry)) from)) ⌝
-    }
+    ensures { λ r. ⌜ Ran (now (now (terms .entry) .records)) (now (steps .entry)) from (now (steps .exit)) r (now (rows .exit))
+        (absorb (now (now (terms .entry) .records)) (now (claims .entry)) p l (until (now (steps .entry)) from)) ⌝ }
 {
     if l % 2 != 0 {
         return from;
@@ -194,6 +218,14 @@ pub(crate) fn absorb(terms: &Terms, claims: &[Claim], near: &[u16], steps: &mut 
     if label(rows, from, q.left) == label(rows, from, q.right) {
         return from;
     }
-    merge(terms, steps, from, rows, q.left, q.right, Reason::Asserted(p));
+    merge(
+        terms,
+        steps,
+        from,
+        rows,
+        q.left,
+        q.right,
+        Reason::Asserted(p),
+    );
     settle(terms, near, steps, from + 1, rows)
 }

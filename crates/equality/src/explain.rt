@@ -6,12 +6,10 @@ ghost use Rattle.congruence.specs.Merges.{needed};
 ghost use Rattle.congruence.specs.Log.{Formed};
 ghost use Rattle.equality.specs.Logs.{until, labelAt, cell, Tabled};
 ghost use Rattle.equality.specs.Marked.{Joins, Sides, Whole, Grown};
-
-use congruence::Reason;
-use congruence::Step;
-
 use crate::closure::label;
 use crate::terms::Terms;
+use congruence::Reason;
+use congruence::Step;
 
 /// The two ends of a merge between two terms: the one on the near side, and the one on the far side.
 #[derive(Clone, Copy)]
@@ -52,14 +50,28 @@ fn sides(terms: &Terms, steps: &[Step], rows: &[u16], t: u16, u: u16, k: usize) 
 {
     let s = steps[k];
     if label(rows, k, t) == label(rows, k, s.left) {
-        Ends { near: s.left, far: s.right }
+        Ends {
+            near: s.left,
+            far: s.right,
+        }
     } else {
-        Ends { near: s.right, far: s.left }
+        Ends {
+            near: s.right,
+            far: s.left,
+        }
     }
 }
 
 /// Marks merges that join `t` and `u`, each with those that it rests on.
-pub(crate) fn explain(terms: &Terms, steps: &[Step], rows: &[u16], marks: &mut [bool], t: u16, u: u16, upto: usize)
+pub(crate) fn explain(
+    terms: &Terms,
+    steps: &[Step],
+    rows: &[u16],
+    marks: &mut [bool],
+    t: u16,
+    u: u16,
+    upto: usize,
+)
     requires formed { ⌜ Formed (now (now terms .records)) (until (now steps) upto) ⌝ }
     requires tabled { ⌜ Tabled (now (now terms .records)) (now rows) (now steps) upto ⌝ }
     requires long { ⌜ length (now steps) ≡ 256 ⌝ ∗ ⌜ length (now marks) ≡ 256 ⌝ ∗ ⌜ length (now rows) ≡ 256 * length (now (now terms .records)) ⌝ }
@@ -67,10 +79,8 @@ pub(crate) fn explain(terms: &Terms, steps: &[Step], rows: &[u16], marks: &mut [
     requires far { ⌜ u < length (now (now terms .records)) ⌝ }
     requires together { ⌜ labelAt (now steps) upto t ≡ labelAt (now steps) upto u ⌝ }
     requires whole { ⌜ Whole (now (now terms .records)) (now steps) (now marks) ⌝ }
-    ensures {
-        λ _. ⌜ Grown (now (now (terms .entry) .records)) (now (steps .entry)) (now (marks .entry)) (now (marks .exit))
-            (λ p. needed (now (now (terms .entry) .records)) (until (now (steps .entry)) upto) p t u) ⌝
-    }
+    ensures { λ _. ⌜ Grown (now (now (terms .entry) .records)) (now (steps .entry)) (now (marks .entry)) (now (marks .exit))
+        (λ p. needed (now (now (terms .entry) .records)) (until (now (steps .entry)) upto) p t u) ⌝ }
 {
     if t == u {
         return;
@@ -91,7 +101,15 @@ pub(crate) fn explain(terms: &Terms, steps: &[Step], rows: &[u16], marks: &mut [
             let x = terms.records[s.left as usize];
             let y = terms.records[s.right as usize];
             for i in 0..x.arity {
-                explain(terms, steps, rows, marks, x.args[i as usize], y.args[i as usize], k);
+                explain(
+                    terms,
+                    steps,
+                    rows,
+                    marks,
+                    x.args[i as usize],
+                    y.args[i as usize],
+                    k,
+                );
             }
             marks[k] = true;
         }

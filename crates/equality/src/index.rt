@@ -3,7 +3,6 @@ ghost use mathlib.Core.Path.{_≡_};
 ghost use Prim.Native.Nat.{ℕ, _<_};
 ghost use lib.ListN.{length, getD};
 ghost use Rattle.equality.specs.Index.{sameHead, nearest, Indexed};
-
 use crate::terms::Terms;
 
 /// Whether two terms have one symbol and one number of arguments.
@@ -11,7 +10,8 @@ fn same_head(terms: &Terms, t: usize, u: usize) -> bool
     requires { ⌜ t < length (now (now terms .records)) ⌝ ∗ ⌜ u < length (now (now terms .records)) ⌝ }
     ensures { λ r. ⌜ r ≡ sameHead (now (now (terms .entry) .records)) t u ⌝ }
 {
-    terms.records[t].symbol == terms.records[u].symbol && terms.records[t].arity == terms.records[u].arity
+    terms.records[t].symbol == terms.records[u].symbol
+        && terms.records[t].arity == terms.records[u].arity
 }
 
 /// The nearest earlier term with the head of `t`, or `t` where there is none.

@@ -13,16 +13,14 @@ ghost use Rattle.std.specs.declared.option.Option.the-variants.{Some};
 ghost use lib.IntN.{pos};
 ghost use Rattle.equality.specs.Logs.{until, labelAt, cell, Tabled};
 ghost use Rattle.equality.specs.Asked.{asserted, covers, Listed};
-
-use congruence::Claim;
-use congruence::Reason;
-use congruence::Step;
-use theory::Literal;
-
 use crate::closure::label;
 use crate::explain::explain;
 use crate::marks::Marks;
 use crate::terms::Terms;
+use congruence::Claim;
+use congruence::Reason;
+use congruence::Step;
+use theory::Literal;
 
 /// Notes the position at which a merge was asserted, if it is marked.
 fn cite(marked: bool, reason: Reason, cited: &mut [bool])
@@ -75,7 +73,18 @@ fn write_core(cited: &[bool], d: u16, len: usize, place: &mut [u16]) -> usize
 }
 
 /// Puts down the position of a denial and those that join its two terms; the marks are clear again on every way out.
-fn core_of(terms: &Terms, steps: &[Step], rows: &[u16], count: usize, table: &mut [bool], t: u16, u: u16, d: u16, len: usize, place: &mut [u16]) -> usize
+fn core_of(
+    terms: &Terms,
+    steps: &[Step],
+    rows: &[u16],
+    count: usize,
+    table: &mut [bool],
+    t: u16,
+    u: u16,
+    d: u16,
+    len: usize,
+    place: &mut [u16],
+) -> usize
     requires formed { ⌜ Formed (now (now terms .records)) (until (now steps) count) ⌝ }
     requires tabled { ⌜ Tabled (now (now terms .records)) (now rows) (now steps) count ⌝ }
     requires long { ⌜ length (now steps) ≡ 256 ⌝ ∗ ⌜ length (now table) ≡ 256 ⌝ ∗ ⌜ length (now rows) ≡ 256 * length (now (now terms .records)) ⌝ }
@@ -111,7 +120,14 @@ fn clashing(claims: &[Claim], rows: &[u16], count: usize, l: Literal) -> bool
 }
 
 /// The position of the first denial on the list whose two terms are joined.
-pub(crate) fn clash(terms: &Terms, claims: &[Claim], list: &[Literal], steps: &[Step], rows: &[u16], count: usize) -> Option<u16>
+pub(crate) fn clash(
+    terms: &Terms,
+    claims: &[Claim],
+    list: &[Literal],
+    steps: &[Step],
+    rows: &[u16],
+    count: usize,
+) -> Option<u16>
     requires short { ⌜ length (now list) ≤ 128 ⌝ }
     requires listed { ⌜ Listed (now (now terms .records)) (now claims) (now list) ⌝ }
     requires formed { ⌜ Formed (now (now terms .records)) (until (now steps) count) ⌝ }
@@ -130,7 +146,15 @@ pub(crate) fn clash(terms: &Terms, claims: &[Claim], list: &[Literal], steps: &[
 
 /// Puts the core of a clash at position `d` of the list into the place, and returns its length.
 pub(crate) fn core(
-    terms: &Terms, claims: &[Claim], list: &[Literal], steps: &[Step], rows: &[u16], count: usize, table: &mut [bool], d: u16, place: &mut [u16],
+    terms: &Terms,
+    claims: &[Claim],
+    list: &[Literal],
+    steps: &[Step],
+    rows: &[u16],
+    count: usize,
+    table: &mut [bool],
+    d: u16,
+    place: &mut [u16],
 ) -> usize
     requires short { ⌜ length (now list) ≤ 128 ⌝ }
     requires listed { ⌜ Listed (now (now terms .records)) (now claims) (now list) ⌝ }
@@ -146,7 +170,18 @@ pub(crate) fn core(
     ensures place { λ _. ⌜ now (place .exit) ≡ over (core (now (now (terms .entry) .records)) (now (claims .entry)) (now (list .entry)) d) (now (place .entry)) ⌝ }
 {
     let q = claims[list[d as usize] as usize / 2];
-    core_of(terms, steps, rows, count, table, q.left, q.right, d, list.len(), place)
+    core_of(
+        terms,
+        steps,
+        rows,
+        count,
+        table,
+        q.left,
+        q.right,
+        d,
+        list.len(),
+        place,
+    )
 }
 
 /// The label of a term, as a number of a fit.

@@ -11,16 +11,13 @@ ghost use Rattle.congruence.specs.Equality.{Named};
 ghost use Rattle.equality.specs.Index.{Indexed};
 ghost use Rattle.equality.specs.Logs.{until, cell, labelAt};
 ghost use denote.Ref.{now};
-
+use crate::terms::Terms;
 use congruence::Claim;
 use congruence::Step;
 use theory::Literal;
 
-use crate::terms::Terms;
-
 pub mod calls;
 pub mod make;
-
 
 /// Equality over lent term and claim records.
 ///

@@ -3,7 +3,6 @@ ghost use Prim.Native.Nat.{_≤_};
 ghost use lib.ListN.{length};
 ghost use Rattle.congruence.specs.Table.{Arities, Lower};
 ghost use denote.Ref.{now};
-
 use theory::Term;
 
 /// A view of the caller's records that keeps each argument lower than its own term.

@@ -23,8 +23,8 @@ pub names-here : (x : ℕ) (xs : List ℕ) (l : ℕ) → claim x ≡ claim l →
 names-here x xs l h =
     ⊎-elim (λ (e : x ≡ l). rw (eq-eqb x l e))
     (λ (f : x ≢ l).
-      let g : x ≡ complement l = omega (arith, f) in
-      rw (eq-eqb x (complement l) g) (or-true (eqb x l || has xs l)))
+    let g : x ≡ complement l = omega (arith, f) in
+    rw (eq-eqb x (complement l) g) (or-true (eqb x l || has xs l)))
     (cases-eq x l)
 
 pub names-later : (x : ℕ) (xs : List ℕ) (l : ℕ) → (claim x ≡ claim l → ⊥) → names (x ∷ xs) l ≡ names xs l
@@ -141,18 +141,19 @@ tally-new zero l ls h new = absurd (omega arith)
 tally-new (suc k) l ls h new =
     ⊎-elim
     (λ (e : claim l ≡ k).
-      let past : tally k (l ∷ ls) ≡ tally k ls = tally-past k l ls (omega arith) in
-      let here : names (l ∷ ls) (2 * k) ≡ true = names-here l ls (2 * k) (omega arith) in
-      let off : names ls (2 * k) ≡ false = names-same ls l (2 * k) (omega arith) new in
-      ap (λ (b : Bool). tally k (l ∷ ls) + cond b 1 0) here ∙ ap (λ (x : ℕ). x + 1) (past ∙ zero-more k ls off))
+    let past : tally k (l ∷ ls) ≡ tally k ls = tally-past k l ls (omega arith) in
+    let here : names (l ∷ ls) (2 * k) ≡ true = names-here l ls (2 * k) (omega arith) in
+    let off : names ls (2 * k) ≡ false = names-same ls l (2 * k) (omega arith) new in
+    ap (λ (b : Bool). tally k (l ∷ ls) + cond b 1 0) here ∙ ap (λ (x : ℕ). x + 1) (past ∙ zero-more k ls off))
     (λ (ne : claim l ≡ k → ⊥).
-      let ih : tally k (l ∷ ls) ≡ tally k ls + 1 = tally-new k l ls (omega arith) new in
-      let other : names (l ∷ ls) (2 * k) ≡ names ls (2 * k) = names-later l ls (2 * k) (λ e. ne (omega arith)) in
-      ap (λ (b : Bool). tally k (l ∷ ls) + cond b 1 0) other ∙ swapped (tally k (l ∷ ls)) (tally k ls) (cond (names ls (2 * k)) 1 0) ih)
+    let ih : tally k (l ∷ ls) ≡ tally k ls + 1 = tally-new k l ls (omega arith) new in
+    let other : names (l ∷ ls) (2 * k) ≡ names ls (2 * k) = names-later l ls (2 * k) (λ e. ne (omega arith)) in
+    ap (λ (b : Bool). tally k (l ∷ ls) + cond b 1 0) other ∙ swapped (tally k (l ∷ ls)) (tally k ls) (cond (names ls (2 * k)) 1 0) ih)
     (cases-eq (claim l) k)
   where
     swapped : (a b x : ℕ) → a ≡ b + 1 → a + x ≡ (b + x) + 1
     swapped a b x e = omega arith
+
     zero-more : (k : ℕ) (ls : List ℕ) → names ls (2 * k) ≡ false → tally k ls ≡ tally k ls + cond (names ls (2 * k)) 1 0
     zero-more k ls e = let z : tally k ls ≡ tally k ls + 0 = omega arith in z ∙ ap (λ (b : Bool). tally k ls + cond b 1 0) (sym e)
 

@@ -27,7 +27,7 @@ pub taken-back : (ls : List ℕ) (k : ℕ) → k ≤ length ls → (done tt ≡ 
 taken-back ls k h = let e : ltb (length ls) k ≡ false = le-ltb (length ls) k h in (rw e, sym (takeBack-take ls k))
 
 pub written : (M : Meaning) (ls : List ℕ) (place : List ℤ) → M .terms ≤ length place → M .answer ls ≡ possible
-  → (done tt ≡ writeSays M ls place) × (over (M .written ls) place ≡ writeLeaves M ls place)
+    → (done tt ≡ writeSays M ls place) × (over (M .written ls) place ≡ writeLeaves M ls place)
 written M ls place room e =
     let h : ltb (length place) (M .terms) ≡ false = le-ltb (length place) (M .terms) room in
     (rw h (sym (ap fitSays e)), rw h (sym (ap (λ a. fitOver a (M .written ls) place) e)))

@@ -1,7 +1,6 @@
 //! Trials: one literal asserted for a while.
 ghost use mathlib.Core.Path.{_≡_};
-ghost use lib.ListN.{take};
-ghost use Rattle.theory.specs.Calls.{reply, assertLeaves};
+ghost use Rattle.theory.specs.Calls.{reply, assertLeaves, takeBackLeaves};
 ghost use Rattle.theory.specs.Trials.{trialSays, trialQuerySays, trialQueryLeaves};
 use crate::literal::Literal;
 use crate::refusal::Found;
@@ -28,7 +27,7 @@ impl Trial {
     /// Cuts the list to its length before the trial, if it is longer.
     pub fn close<T: Theory>(self, theory: &mut T)
         ensures shape { λ _. ⌜ T·Theory .shapeOf (now (theory .exit)) ≡ T·Theory .shapeOf (now (theory .entry)) ⌝ }
-        ensures list { λ _. ⌜ T·Theory .asserted (now (theory .exit)) ≡ take (self .len) (T·Theory .asserted (now (theory .entry))) ⌝ }
+        ensures list { λ _. ⌜ T·Theory .asserted (now (theory .exit)) ≡ takeBackLeaves (T·Theory .asserted (now (theory .entry))) (self .len) ⌝ }
     {
         let Trial { len } = self;
         let _ = theory.take_back(len);

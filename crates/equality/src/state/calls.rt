@@ -7,18 +7,16 @@ ghost use Rattle.theory.specs.declared.term.Term.{Term};
 ghost use Rattle.congruence.specs.declared.claim.Claim.{Claim};
 ghost use Rattle.congruence.specs.Equality.{equality};
 ghost use Rattle.congruence.proofs.Law.{stands};
-
-use theory::Found;
-use theory::Literal;
-use theory::Refusal;
-use theory::Theory;
-use theory::literal::names;
-
 use crate::closure::absorb;
 use crate::query::clash;
 use crate::query::core;
 use crate::query::write_labels;
 use crate::state::Equality;
+use theory::Found;
+use theory::Literal;
+use theory::Refusal;
+use theory::Theory;
+use theory::literal::names;
 
 pub impl<'a> Theory for Equality<'a> as EqualityTheory {
     ghost Shape = { List Term × List Claim };
@@ -54,7 +52,16 @@ pub impl<'a> Theory for Equality<'a> as EqualityTheory {
             return Err(Refusal::ClaimOnList);
         }
         let from = self.merges[at] as usize;
-        let count = absorb(&self.terms, self.claims, &self.near, &mut self.steps, from, &mut self.rows, at as u16, l);
+        let count = absorb(
+            &self.terms,
+            self.claims,
+            &self.near,
+            &mut self.steps,
+            from,
+            &mut self.rows,
+            at as u16,
+            l,
+        );
         self.list[at] = l;
         self.merges[at + 1] = count as u16;
         self.len = at + 1;
@@ -75,10 +82,27 @@ pub impl<'a> Theory for Equality<'a> as EqualityTheory {
         }
         let list = &self.list[0..self.len];
         let count = self.merges[self.len] as usize;
-        match clash(&self.terms, self.claims, list, &self.steps, &self.rows, count) {
+        match clash(
+            &self.terms,
+            self.claims,
+            list,
+            &self.steps,
+            &self.rows,
+            count,
+        ) {
             None => Ok(Found::Possible),
             Some(d) => {
-                let n = core(&self.terms, self.claims, list, &self.steps, &self.rows, count, &mut self.marks, d, place);
+                let n = core(
+                    &self.terms,
+                    self.claims,
+                    list,
+                    &self.steps,
+                    &self.rows,
+                    count,
+                    &mut self.marks,
+                    d,
+                    place,
+                );
                 Ok(Found::Impossible(n))
             }
         }
@@ -91,7 +115,14 @@ pub impl<'a> Theory for Equality<'a> as EqualityTheory {
         }
         let list = &self.list[0..self.len];
         let count = self.merges[self.len] as usize;
-        match clash(&self.terms, self.claims, list, &self.steps, &self.rows, count) {
+        match clash(
+            &self.terms,
+            self.claims,
+            list,
+            &self.steps,
+            &self.rows,
+            count,
+        ) {
             Some(_) => Err(Refusal::ListImpossible),
             None => {
                 write_labels(&self.rows, count, m, place);

@@ -9,7 +9,12 @@ ghost use Rattle.equality.specs.Checks.{Sound};
 ghost use Rattle.equality.specs.Index.{Indexed};
 ghost use Rattle.equality.specs.Logs.{Closed};
 ghost use Rattle.equality.specs.Made.{Made};
-
+use crate::check::check;
+use crate::closure::Closure;
+use crate::closure::settle;
+use crate::index::link;
+use crate::state::Equality;
+use crate::terms::Terms;
 use congruence::Claim;
 use congruence::Reason;
 use congruence::Step;
@@ -19,13 +24,6 @@ use theory::Literal;
 use theory::Term;
 use theory::Unmade;
 use theory::refusal::UnmadeFromAllocError;
-
-use crate::check::check;
-use crate::closure::Closure;
-use crate::closure::settle;
-use crate::index::link;
-use crate::state::Equality;
-use crate::terms::Terms;
 
 /// A row of 128 places for the literals of a list.
 fn no_literals(heap: Global) -> Result<Vec<Literal>, AllocError>
@@ -52,7 +50,13 @@ fn no_marks(heap: Global, n: usize) -> Result<Vec<bool>, AllocError>
 fn no_steps(heap: Global) -> Result<Vec<Step>, AllocError>
     ensures { λ r. ⌜ made r (λ v. vec-len v ≡ 256) ⌝ }
 {
-    vec![in heap; Step { left: 0, right: 0, high: 0, low: 0, reason: Reason::Congruence }; 256]
+    vec![in heap; Step {
+        left: 0,
+        right: 0,
+        high: 0,
+        low: 0,
+        reason: Reason::Congruence
+    }; 256]
 }
 
 /// The index of a table.
@@ -88,14 +92,16 @@ fn first_rows(heap: Global, m: usize) -> Result<Vec<u16>, AllocError>
 fn first_closure(heap: Global, terms: &Terms, near: &[u16]) -> Result<Closure, AllocError>
     requires long { ⌜ length (now near) ≡ length (now (now terms .records)) ⌝ }
     requires indexed { ⌜ Indexed (now (now terms .records)) (now near) ⌝ }
-    ensures {
-        λ r. ⌜ made r (λ x. Closed (now (now (terms .entry) .records)) (vec-items (x .steps)) (x .count) (vec-items (x .rows))) ⌝
-    }
+    ensures { λ r. ⌜ made r (λ x. Closed (now (now (terms .entry) .records)) (vec-items (x .steps)) (x .count) (vec-items (x .rows))) ⌝ }
 {
     let mut steps = no_steps(heap)?;
     let mut rows = first_rows(heap, terms.records.len())?;
     let count = settle(terms, near, &mut steps, 0, &mut rows);
-    Ok(Closure { steps, rows, count: count as u16 })
+    Ok(Closure {
+        steps,
+        rows,
+        count: count as u16,
+    })
 }
 
 /// The theory of sound records.
@@ -109,11 +115,25 @@ fn build<'a>(heap: Global, terms: &'a [Term], claims: &'a [Claim]) -> Result<Equ
     let list = no_literals(heap)?;
     let merges = first_merges(heap, count)?;
     let marks = no_marks(heap, 256)?;
-    Ok(Equality { terms, claims, near, list, len: 0, merges, steps, rows, marks })
+    Ok(Equality {
+        terms,
+        claims,
+        near,
+        list,
+        len: 0,
+        merges,
+        steps,
+        rows,
+        marks,
+    })
 }
 
 /// Makes the theory of the lent terms and claims, with nothing asserted.
-pub fn make<'a>(heap: Global, terms: &'a [Term], claims: &'a [Claim]) -> Result<Equality<'a>, Unmade>
+pub fn make<'a>(
+    heap: Global,
+    terms: &'a [Term],
+    claims: &'a [Claim],
+) -> Result<Equality<'a>, Unmade>
     ensures { λ r. ⌜ Made (now (terms .entry)) (now (claims .entry)) r ⌝ }
 {
     match check(terms, claims) {

@@ -8,9 +8,10 @@ use Rattle.equality.proofs.check.check.Needs.{then-terms-gt256·by·then-terms
 pub returns-then-terms-gt256 : need.returns-then-terms-gt256
 returns-then-terms-gt256 c = past-limit (λ l.
     elim (c .then-terms-gt256 .came) [
-      then-terms-gt256·by·then-terms-gt256 w ↦ omega (arith, w .if-terms-gt256 .taken, l .few-terms)
-    | then-terms-gt256·by·else-terms-gt256·then-claims-gt128 w ↦ omega (arith, w .if-claims-gt128 .taken, l .few-claims)
-    | then-terms-gt256·by·else-terms-gt256·else-claims-gt128·then-not-few-arguments w ↦ true≢false (sym (w .few-arguments .ensures .1 (l .arities)) ∙ w .if-not-few-arguments .taken) ])
+      | then-terms-gt256·by·then-terms-gt256 w ↦ omega (arith, w .if-terms-gt256 .taken, l .few-terms)
+      | then-terms-gt256·by·else-terms-gt256·then-claims-gt128 w ↦ omega (arith, w .if-claims-gt128 .taken, l .few-claims)
+      | then-terms-gt256·by·else-terms-gt256·else-claims-gt128·then-not-few-arguments w ↦ true≢false (sym (w .few-arguments .ensures .1 (l .arities)) ∙ w .if-not-few-arguments .taken)
+    ])
 
 pub returns-then-not-lower-arguments : need.returns-then-not-lower-arguments
 returns-then-not-lower-arguments c =

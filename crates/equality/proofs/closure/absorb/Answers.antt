@@ -13,7 +13,7 @@ use Rattle.equality.proofs.closure.absorb.Needs as need
 
 -- the place of a label in the table
 in-row : (ts : List Term) (ss : List Step) (n t : ℕ) (rows : List ℕ) → length ts ≤ 256 → Ready ts ss n rows → t < length ts
-  → (n < 256) × (t < 256) × (256 * n + t < length rows)
+    → (n < 256) × (t < 256) × (256 * n + t < length rows)
 in-row ts ss n t rows few r h =
     let room = merges-room ts ss n t (r .formed) h in
     (omega arith, omega arith, omega (arith, r .rows-long))
@@ -26,7 +26,7 @@ label-requires-2 c κs = let w = in-row (c .args .terms .now .records .now) (c .
 
 -- different cells are different labels
 labels-apart : (ts : List Term) (ss : List Step) (n a b x y : ℕ) (rows : List ℕ) → Tabled ts rows ss n → a < length ts → b < length ts
-  → x ≡ cell rows n a → y ≡ cell rows n b → (x ≡ y → ⊥) → labelAt ss n a ≡ labelAt ss n b → ⊥
+    → x ≡ cell rows n a → y ≡ cell rows n b → (x ≡ y → ⊥) → labelAt ss n a ≡ labelAt ss n b → ⊥
 labels-apart ts ss n a b x y rows tabled ha hb ex ey ne e =
     ne (ex ∙ tabled n a (omega arith) ha ∙ e ∙ sym (tabled n b (omega arith) hb) ∙ sym ey)
 
@@ -40,7 +40,7 @@ merge-requires c κs =
     record {
       room = (
         merge-room ts ss n (q .left) (q .right) (Asserted (c .args .p)) (r .formed) (c .pre .left) (c .pre .right)
-          (labels-apart ts ss n (q .left) (q .right) _ _ (c .args .rows .now) (r .tabled) (c .pre .left) (c .pre .right) (c .label .ensures) (c .label-2 .ensures) (c .if-label .left)) tt,
+            (labels-apart ts ss n (q .left) (q .right) _ _ (c .args .rows .now) (r .tabled) (c .pre .left) (c .pre .right) (c .label .ensures) (c .label-2 .ensures) (c .if-label .left)) tt,
         (r .steps-long, r .rows-long),
       );
       tabled = r .tabled;
@@ -62,8 +62,8 @@ settle-requires c κs =
     let g = c .merge .ensures in
     record {
       ready = ran-merge ts ss (c .merge .last .steps) n (c .args .rows .now) (c .merge .last .rows) (q .left) (q .right) (Asserted (c .args .p)) r
-        (record { log = g .log; before = g .before; tabled = g .tabled }) (g .long .0) (g .long .1) (c .pre .left) (c .pre .right)
-        (labels-apart ts ss n (q .left) (q .right) _ _ (c .args .rows .now) (r .tabled) (c .pre .left) (c .pre .right) (c .label .ensures) (c .label-2 .ensures) (c .if-label .left)) tt .ready;
+          (record { log = g .log; before = g .before; tabled = g .tabled }) (g .long .0) (g .long .1) (c .pre .left) (c .pre .right)
+          (labels-apart ts ss n (q .left) (q .right) _ _ (c .args .rows .now) (r .tabled) (c .pre .left) (c .pre .right) (c .label .ensures) (c .label-2 .ensures) (c .if-label .left)) tt .ready;
       long = c .pre .long;
       indexed = c .pre .indexed;
     }
@@ -81,7 +81,7 @@ returns-then-label c =
     let tabled = c .pre .ready .tabled in
     ran-still ts (c .args .steps .now) (c .args .from) (c .args .rows .now) _
     (absorb-same ts (c .args .claims .now) (c .args .p) (c .args .l) log (c .if-l-ne0 .left)
-      (sym (tabled (c .args .from) _ (omega arith) (c .pre .left)) ∙ sym (c .label .ensures) ∙ c .if-label .taken ∙ c .label-2 .ensures ∙ tabled (c .args .from) _ (omega arith) (c .pre .right)))
+    (sym (tabled (c .args .from) _ (omega arith) (c .pre .left)) ∙ sym (c .label .ensures) ∙ c .if-label .taken ∙ c .label-2 .ensures ∙ tabled (c .args .from) _ (omega arith) (c .pre .right)))
     (c .pre .ready)
 
 pub returns : need.returns
@@ -97,7 +97,7 @@ returns c =
     let apart = labels-apart ts ss n (q .left) (q .right) _ _ (c .args .rows .now) (r .tabled) (c .pre .left) (c .pre .right) (c .label .ensures) (c .label-2 .ensures) (c .if-label .left) in
     ran-on ts ss rs (c .settle .last .steps) n (n + 1) (c .settle .result) (c .merge .last .rows) (c .settle .last .rows) _ _
     (ran-merge ts ss rs n (c .args .rows .now) (c .merge .last .rows) (q .left) (q .right) (Asserted (c .args .p)) r
-      (record { log = g .log; before = g .before; tabled = g .tabled }) (g .long .0) (g .long .1) (c .pre .left) (c .pre .right) apart tt)
+    (record { log = g .log; before = g .before; tabled = g .tabled }) (g .long .0) (g .long .1) (c .pre .left) (c .pre .right) apart tt)
     (ran-as ts rs (c .settle .last .steps) (n + 1) (c .settle .result) (c .settle .last .rows) _ _
-      (ap (settle ts (length ts)) (g .log) ∙ absorb-new ts (c .args .claims .now) (c .args .p) (c .args .l) log (c .if-l-ne0 .left) apart)
-      (c .settle .ensures))
+    (ap (settle ts (length ts)) (g .log) ∙ absorb-new ts (c .args .claims .now) (c .args .p) (c .args .l) log (c .if-l-ne0 .left) apart)
+    (c .settle .ensures))

@@ -17,7 +17,7 @@ use Rattle.equality.proofs.closure.pass.Needs as need
 
 -- a twin by the table of labels is one by the log
 pending : (ts : List Term) (ss : List Step) (n t u : ℕ) (rows : List ℕ) (o : Option ℕ) → Lower ts → Ready ts ss n rows → t < length ts
-  → o ≡ twin ts (cell rows n) t → o ≡ Some u → Pending ts (labelAt ss n) t u
+    → o ≡ twin ts (cell rows n) t → o ≡ Some u → Pending ts (labelAt ss n) t u
 pending ts ss n t u rows o lower r ht e is = twin-some ts (labelAt ss n) t u (twin-by-log ts ss n t rows o lower (r .tabled) ht e ∙ is)
 
 pub twin-requires : need.twin-requires
@@ -56,7 +56,7 @@ returns-in-None c =
     let n = c .args .count in
     ran-still ts ss n (c .args .rows .now) _
     (pass-none ts (c .args .t) (until ss n)
-      (twin-by-log ts ss n (c .args .t) (c .args .rows .now) (c .twin .result) (c .args .terms .now .lower) (c .pre .ready .tabled) (c .pre .term) (c .twin .ensures) ∙ c .in-None .is))
+    (twin-by-log ts ss n (c .args .t) (c .args .rows .now) (c .twin .result) (c .args .terms .now .lower) (c .pre .ready .tabled) (c .pre .term) (c .twin .ensures) ∙ c .in-None .is))
     (c .pre .ready)
 
 pub returns-in-Some : need.returns-in-Some
@@ -69,6 +69,6 @@ returns-in-Some c =
     let w = pending ts ss n (c .args .t) (c .in-Some .u) (c .args .rows .now) (c .twin .result) (c .args .terms .now .lower) r (c .pre .term) (c .twin .ensures) (c .in-Some .is) in
     ran-as ts ss (c .merge .last .steps) n (n + 1) (c .merge .last .rows) _ _
     (pass-some ts (c .args .t) (c .in-Some .u) (until ss n)
-      (twin-by-log ts ss n (c .args .t) (c .args .rows .now) (c .twin .result) (c .args .terms .now .lower) (r .tabled) (c .pre .term) (c .twin .ensures) ∙ c .in-Some .is))
+    (twin-by-log ts ss n (c .args .t) (c .args .rows .now) (c .twin .result) (c .args .terms .now .lower) (r .tabled) (c .pre .term) (c .twin .ensures) ∙ c .in-Some .is))
     (ran-merge ts ss (c .merge .last .steps) n (c .args .rows .now) (c .merge .last .rows) (c .args .t) (c .in-Some .u) Congruence r
-      (record { log = g .log; before = g .before; tabled = g .tabled }) (g .long .0) (g .long .1) (c .pre .term) (omega (arith, w .earlier, c .pre .term)) (w .apart) (w .congruent))
+    (record { log = g .log; before = g .before; tabled = g .tabled }) (g .long .0) (g .long .1) (c .pre .term) (omega (arith, w .earlier, c .pre .term)) (w .apart) (w .congruent))

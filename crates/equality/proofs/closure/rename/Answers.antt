@@ -22,9 +22,9 @@ module _ (old rows : List ℕ) (k t m high low v : ℕ)
   more : (i : ℕ) → i < t + 1 → cell (set rows ((256 * k + 256) + t) v) (k + 1) i ≡ relabel high low (cell old k i)
   more i h = ⊎-elim
       (λ (e : i ≡ t).
-        ap (λ (n : ℕ). getD (set rows ((256 * k + 256) + t) v) n 0) (let z : 256 * (k + 1) + i ≡ (256 * k + 256) + t = omega arith in z)
-        ∙ getD-set-same rows ((256 * k + 256) + t) v 0 (omega arith) ∙ is
-        ∙ ap (relabel high low) (kept (256 * k + t) (omega arith) ∙ ap (λ (n : ℕ). cell old k n) (sym e)))
+      ap (λ (n : ℕ). getD (set rows ((256 * k + 256) + t) v) n 0) (let z : 256 * (k + 1) + i ≡ (256 * k + 256) + t = omega arith in z)
+      ∙ getD-set-same rows ((256 * k + 256) + t) v 0 (omega arith) ∙ is
+      ∙ ap (relabel high low) (kept (256 * k + t) (omega arith) ∙ ap (λ (n : ℕ). cell old k n) (sym e)))
       (λ (e : i ≡ t → ⊥). getD-set-other rows ((256 * k + 256) + t) (256 * (k + 1) + i) v 0 (omega arith) ∙ each i (omega arith))
       (cases-eq i t)
 
@@ -33,6 +33,7 @@ loop-t-again c =
     let old = c .args .rows .now in
     let rows = c .loop-t .rows in
     let long : 256 * (c .args .k + 2) ≤ length rows = omega (arith, c .pre .1 .1, c .loop-t .kept .rows) in
-    let i = c .loop-t .inv in
-    ( still old rows (c .args .k) (c .loop-t .t) (c .args .m) (c .args .high) (c .args .low) (c .renamed-c .result) (c .pre .1 .0) (c .loop-t-test .taken) long (i .0) (i .1) (c .renamed-c .ensures)
-    , more old rows (c .args .k) (c .loop-t .t) (c .args .m) (c .args .high) (c .args .low) (c .renamed-c .result) (c .pre .1 .0) (c .loop-t-test .taken) long (i .0) (i .1) (c .renamed-c .ensures) )
+    let i = c .loop-t .inv in (
+      still old rows (c .args .k) (c .loop-t .t) (c .args .m) (c .args .high) (c .args .low) (c .renamed-c .result) (c .pre .1 .0) (c .loop-t-test .taken) long (i .0) (i .1) (c .renamed-c .ensures),
+      more old rows (c .args .k) (c .loop-t .t) (c .args .m) (c .args .high) (c .args .low) (c .renamed-c .result) (c .pre .1 .0) (c .loop-t-test .taken) long (i .0) (i .1) (c .renamed-c .ensures),
+    )

@@ -23,8 +23,8 @@ returns-then-next-count c =
     let still : sweep ts (length ts) log ≡ log = sym (g .log-is) ∙ ap (until rs) (c .if-next-count .taken) ∙ g .before (c .loop-left .count) (omega arith) in
     subst (λ (k : ℕ). Ran ts (c .args .steps .now) (c .args .from) rs k (c .sweep-next .last .rows) (settle ts (length ts) (until (c .args .steps .now) (c .args .from)))) (c .if-next-count .taken)
     (ran-as ts (c .args .steps .now) rs (c .args .from) (c .sweep-next .result) (c .sweep-next .last .rows) _ _
-      (still ∙ sym (i .1 ∙ settle-still ts (c .loop-left .left) log still))
-      (ran-on ts (c .args .steps .now) (c .loop-left .steps) rs (c .args .from) (c .loop-left .count) (c .sweep-next .result) (c .loop-left .rows) (c .sweep-next .last .rows) log _ (i .0) g))
+    (still ∙ sym (i .1 ∙ settle-still ts (c .loop-left .left) log still))
+    (ran-on ts (c .args .steps .now) (c .loop-left .steps) rs (c .args .from) (c .loop-left .count) (c .sweep-next .result) (c .loop-left .rows) (c .sweep-next .last .rows) log _ (i .0) g))
 
 pub loop-left-again : need.loop-left-again
 loop-left-again c =
@@ -33,10 +33,11 @@ loop-left-again c =
     let i = c .loop-left .inv in
     let g = c .sweep-next .ensures in
     let rs = c .sweep-next .last .steps in
-    let next = c .sweep-next .result in
-    ( ran-on ts (c .args .steps .now) (c .loop-left .steps) rs (c .args .from) (c .loop-left .count) next (c .loop-left .rows) (c .sweep-next .last .rows) log (until rs next) (i .0)
-        (ran-as ts (c .loop-left .steps) rs (c .loop-left .count) next (c .sweep-next .last .rows) _ _ (sym (g .log-is)) g)
-    , i .1 ∙ settle-more ts (c .loop-left .left) log (c .loop-left-test .taken) ∙ ap (settle ts (c .loop-left .left - 1)) (sym (g .log-is)) )
+    let next = c .sweep-next .result in (
+      ran-on ts (c .args .steps .now) (c .loop-left .steps) rs (c .args .from) (c .loop-left .count) next (c .loop-left .rows) (c .sweep-next .last .rows) log (until rs next) (i .0)
+          (ran-as ts (c .loop-left .steps) rs (c .loop-left .count) next (c .sweep-next .last .rows) _ _ (sym (g .log-is)) g),
+      i .1 ∙ settle-more ts (c .loop-left .left) log (c .loop-left-test .taken) ∙ ap (settle ts (c .loop-left .left - 1)) (sym (g .log-is)),
+    )
 
 pub returns : need.returns
 returns c =

@@ -9,7 +9,7 @@ abbrev pub Inv-loop-left : given.InvT-loop-left
 Inv-loop-left l =
     Ran (l .terms .records .now) (l .entry .steps) (l .from) (l .steps) (l .count) (l .rows) (until (l .steps) (l .count))
     × (settle (l .terms .records .now) (length (l .terms .records .now)) (until (l .entry .steps) (l .from))
-      ≡ settle (l .terms .records .now) (l .left) (until (l .steps) (l .count)))
+    ≡ settle (l .terms .records .now) (l .left) (until (l .steps) (l .count)))
 
 abbrev pub μ-loop-left : given.MeasureT-loop-left
 μ-loop-left l = l .left

@@ -33,23 +33,25 @@ returns-then-same-arguments c =
     let ts = c .args .terms .now .records .now in
     let i = c .loop-v .inv in
     sym (walk-hit ts (cell (c .args .rows .now) (c .args .k)) (c .args .t) (c .loop-v .u) (c .loop-v .v) (i .0) (near-at ts (c .loop-v .u) (c .loop-v .v) (i .1))
-      (c .loop-v-test .taken) (λ e. c .if-label .taken (c .label .ensures ∙ e ∙ sym (c .label-in-loop-v .ensures)))
-      (c .same-arguments .ensures .0 (c .if-same-arguments .taken)))
+    (c .loop-v-test .taken) (λ e. c .if-label .taken (c .label .ensures ∙ e ∙ sym (c .label-in-loop-v .ensures)))
+    (c .same-arguments .ensures .0 (c .if-same-arguments .taken)))
 
 pub loop-v-again : need.loop-v-again
 loop-v-again c =
     let ts = c .args .terms .now .records .now in
     let num = cell (c .args .rows .now) (c .args .k) in
     let i = c .loop-v .inv in
-    let n = near-at ts (c .loop-v .u) (c .loop-v .v) (i .1) in
-    ( elim (c .else-label .came) [
-        else-label·by·then-label·else-same-arguments w ↦
-          walk-other ts num (c .args .t) (c .loop-v .u) (c .loop-v .v) (i .0) n (c .loop-v-test .taken)
-          (λ x. true≢false (sym (w .same-arguments .ensures .1 x) ∙ w .if-same-arguments .left))
-      | else-label·by·else-label w ↦
-          walk-same ts num (c .args .t) (c .loop-v .u) (c .loop-v .v) (i .0) n (c .loop-v-test .taken)
-          (sym (c .label .ensures) ∙ w .if-label .left ∙ c .label-in-loop-v .ensures) ]
-    , c .pre .indexed (c .loop-v .v) (omega (arith, c .pre .term, c .loop-v-test .taken, i .0 .low)) )
+    let n = near-at ts (c .loop-v .u) (c .loop-v .v) (i .1) in (
+      elim (c .else-label .came) [
+        | else-label·by·then-label·else-same-arguments w ↦
+            walk-other ts num (c .args .t) (c .loop-v .u) (c .loop-v .v) (i .0) n (c .loop-v-test .taken)
+            (λ x. true≢false (sym (w .same-arguments .ensures .1 x) ∙ w .if-same-arguments .left))
+        | else-label·by·else-label w ↦
+            walk-same ts num (c .args .t) (c .loop-v .u) (c .loop-v .v) (i .0) n (c .loop-v-test .taken)
+            (sym (c .label .ensures) ∙ w .if-label .left ∙ c .label-in-loop-v .ensures)
+      ],
+      c .pre .indexed (c .loop-v .v) (omega (arith, c .pre .term, c .loop-v-test .taken, i .0 .low)),
+    )
 
 pub returns : need.returns
 returns c =

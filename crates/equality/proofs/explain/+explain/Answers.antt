@@ -20,8 +20,8 @@ use Rattle.equality.proofs.explain.+explain.Needs as need
 
 -- the two halves of the way, and then the merge between them
 whole-way : (ts : List Term) (ss : List Step) (ms ns os qs : List Bool) (t u k n : ℕ) (r : Ends) → k < n → Joins ss t u k → Sides ts ss t u k r
-  → Grown ts ss ms ns (λ p. needed ts (until ss k) p t (r .near)) → Grown ts ss ns os (λ p. needed ts (until ss k) p (r .far) u)
-  → Grown ts ss os qs (basis ts ss k) → Grown ts ss ms qs (λ p. needed ts (until ss n) p t u)
+    → Grown ts ss ms ns (λ p. needed ts (until ss k) p t (r .near)) → Grown ts ss ns os (λ p. needed ts (until ss k) p (r .far) u)
+    → Grown ts ss os qs (basis ts ss k) → Grown ts ss ms qs (λ p. needed ts (until ss n) p t u)
 whole-way ts ss ms ns os qs t u k n r h j s a b c =
     grown-as ts ss ms qs (λ p. (needed ts (until ss k) p t (r .near) || needed ts (until ss k) p (r .far) u) || basis ts ss k p) _
     (λ p. needed-met ts ss p t u k n h j ∙ ap (λ (x : Bool). x || basis ts ss k p) (s .way (needed ts (until ss k) p)))
@@ -35,7 +35,7 @@ pub returns-then-t-u : need.returns-then-t-u
 returns-then-t-u t c =
     grown-none (c .args .terms .now .records .now) (c .args .steps .now) (c .args .marks .now) _ (c .pre .whole)
     (λ p. ap (needed (c .args .terms .now .records .now) (until (c .args .steps .now) (c .args .upto)) p (c .args .t)) (sym (c .if-t-u .taken))
-      ∙ needed-none (c .args .terms .now .records .now) (until (c .args .steps .now) (c .args .upto)) p (c .args .t))
+    ∙ needed-none (c .args .terms .now .records .now) (until (c .args .steps .now) (c .args .upto)) p (c .args .t))
 
 pub joining-k-requires : need.joining-k-requires
 joining-k-requires t c κs =
@@ -51,7 +51,7 @@ joining-k-requires t c κs =
 
 -- the merge at which the two terms met
 met : (ts : List Term) (ss : List Step) (rows : List ℕ) (t u k n : ℕ) → Tabled ts rows ss n → t < length ts → u < length ts
-  → (k < n) × ((cell rows k t ≡ cell rows k u → ⊥) × (cell rows (k + 1) t ≡ cell rows (k + 1) u)) → Joins ss t u k
+    → (k < n) × ((cell rows k t ≡ cell rows k u → ⊥) × (cell rows (k + 1) t ≡ cell rows (k + 1) u)) → Joins ss t u k
 met ts ss rows t u k n tabled ht hu w = joins-by ts ss rows t u k n (w .0) tabled ht hu (w .1 .0) (w .1 .1)
 
 pub sides-by-requires : need.sides-by-requires
@@ -72,32 +72,66 @@ sides-by-requires t c κs =
 pub explain-requires : need.explain-requires
 explain-requires t c κs =
     let ts = c .args .terms .now .records .now in
-    let below = c .joining-k .ensures .0 in
-    ( omega (arith, below)
-    , ( formed-at ts (c .args .steps .now) (c .args .upto) (c .joining-k .result) below (c .pre .formed) .1
-    , ( fewer ts (c .args .rows .now) (c .args .steps .now) (c .joining-k .result) (c .args .upto) below (c .pre .tabled)
-    , ( c .pre .long .0
-    , ( c .pre .long .1 .0
-    , ( c .pre .long .1 .1
-    , ( c .pre .near
-    , ( c .sides-by .ensures .near-in
-    , ( c .sides-by .ensures .near-side
-    , c .pre .whole )))))))))
+    let below = c .joining-k .ensures .0 in (
+      omega (arith, below),
+      (
+        formed-at ts (c .args .steps .now) (c .args .upto) (c .joining-k .result) below (c .pre .formed) .1,
+        (
+          fewer ts (c .args .rows .now) (c .args .steps .now) (c .joining-k .result) (c .args .upto) below (c .pre .tabled),
+          (
+            c .pre .long .0,
+            (
+              c .pre .long .1 .0,
+              (
+                c .pre .long .1 .1,
+                (
+                  c .pre .near,
+                  (
+                    c .sides-by .ensures .near-in,
+                    (
+                      c .sides-by .ensures .near-side,
+                      c .pre .whole,
+                    ),
+                  ),
+                ),
+              ),
+            ),
+          ),
+        ),
+      ),
+    )
 
 pub explain-requires-2 : need.explain-requires-2
 explain-requires-2 t c κs =
     let ts = c .args .terms .now .records .now in
-    let below = c .joining-k .ensures .0 in
-    ( omega (arith, below)
-    , ( formed-at ts (c .args .steps .now) (c .args .upto) (c .joining-k .result) below (c .pre .formed) .1
-    , ( fewer ts (c .args .rows .now) (c .args .steps .now) (c .joining-k .result) (c .args .upto) below (c .pre .tabled)
-    , ( c .pre .long .0
-    , ( c .explain .ensures .long ∙ c .pre .long .1 .0
-    , ( c .pre .long .1 .1
-    , ( c .sides-by .ensures .far-in
-    , ( c .pre .far
-    , ( c .sides-by .ensures .far-side
-    , c .explain .ensures .whole )))))))))
+    let below = c .joining-k .ensures .0 in (
+      omega (arith, below),
+      (
+        formed-at ts (c .args .steps .now) (c .args .upto) (c .joining-k .result) below (c .pre .formed) .1,
+        (
+          fewer ts (c .args .rows .now) (c .args .steps .now) (c .joining-k .result) (c .args .upto) below (c .pre .tabled),
+          (
+            c .pre .long .0,
+            (
+              c .explain .ensures .long ∙ c .pre .long .1 .0,
+              (
+                c .pre .long .1 .1,
+                (
+                  c .sides-by .ensures .far-in,
+                  (
+                    c .pre .far,
+                    (
+                      c .sides-by .ensures .far-side,
+                      c .explain .ensures .whole,
+                    ),
+                  ),
+                ),
+              ),
+            ),
+          ),
+        ),
+      ),
+    )
 
 -- where the merge stands in the row and among the marks
 in-log : (ts : List Term) (ss : List Step) (t k n : ℕ) → length ts ≤ 256 → length ss ≡ 256 → Formed ts (until ss n) → t < length ts → k < n → k < length ss
@@ -105,13 +139,24 @@ in-log ts ss t k n few long f h b = omega (arith, merges-room ts ss n t f h)
 
 pub index-marks-k : need.index-marks-k
 index-marks-k t c =
-    omega (arith, c .explain-2 .ensures .long, c .explain .ensures .long, c .pre .long .0, c .pre .long .1 .0,
-      in-log (c .args .terms .now .records .now) (c .args .steps .now) (c .args .t) (c .joining-k .result) (c .args .upto) (c .args .terms .now .few) (c .pre .long .0) (c .pre .formed) (c .pre .near) (c .joining-k .ensures .0))
+    omega (
+      arith,
+      c .explain-2 .ensures .long,
+      c .explain .ensures .long,
+      c .pre .long .0,
+      c .pre .long .1 .0,
+      in-log (c .args .terms .now .records .now) (c .args .steps .now) (c .args .t) (c .joining-k .result) (c .args .upto) (c .args .terms .now .few) (c .pre .long .0) (c .pre .formed) (c .pre .near) (c .joining-k .ensures .0),
+    )
 
 pub offset-steps-k : need.offset-steps-k
 offset-steps-k t c =
-    record { fits = omega (arith, c .pre .long .0,
-      in-log (c .args .terms .now .records .now) (c .args .steps .now) (c .args .t) (c .joining-k .result) (c .args .upto) (c .args .terms .now .few) (c .pre .long .0) (c .pre .formed) (c .pre .near) (c .joining-k .ensures .0)) }
+    record {
+      fits = omega (
+        arith,
+        c .pre .long .0,
+        in-log (c .args .terms .now .records .now) (c .args .steps .now) (c .args .t) (c .joining-k .result) (c .args .upto) (c .args .terms .now .few) (c .pre .long .0) (c .pre .formed) (c .pre .near) (c .joining-k .ensures .0),
+      );
+    }
 
 pub index-steps-k : need.index-steps-k
 index-steps-k t c =
@@ -119,13 +164,26 @@ index-steps-k t c =
 
 pub index-marks-k-in-Asserted : need.index-marks-k-in-Asserted
 index-marks-k-in-Asserted t c =
-    omega (arith, c .explain-2 .ensures .long, c .explain .ensures .long, c .pre .long .0, c .pre .long .1 .0,
-      in-log (c .args .terms .now .records .now) (c .args .steps .now) (c .args .t) (c .joining-k .result) (c .args .upto) (c .args .terms .now .few) (c .pre .long .0) (c .pre .formed) (c .pre .near) (c .joining-k .ensures .0))
+    omega (
+      arith,
+      c .explain-2 .ensures .long,
+      c .explain .ensures .long,
+      c .pre .long .0,
+      c .pre .long .1 .0,
+      in-log (c .args .terms .now .records .now) (c .args .steps .now) (c .args .t) (c .joining-k .result) (c .args .upto) (c .args .terms .now .few) (c .pre .long .0) (c .pre .formed) (c .pre .near) (c .joining-k .ensures .0),
+    )
 
 pub index-marks-k-in-Congruence : need.index-marks-k-in-Congruence
 index-marks-k-in-Congruence t c =
-    omega (arith, c .loop-i .inv .long, c .explain-2 .ensures .long, c .explain .ensures .long, c .pre .long .0, c .pre .long .1 .0,
-      in-log (c .args .terms .now .records .now) (c .args .steps .now) (c .args .t) (c .joining-k .result) (c .args .upto) (c .args .terms .now .few) (c .pre .long .0) (c .pre .formed) (c .pre .near) (c .joining-k .ensures .0))
+    omega (
+      arith,
+      c .loop-i .inv .long,
+      c .explain-2 .ensures .long,
+      c .explain .ensures .long,
+      c .pre .long .0,
+      c .pre .long .1 .0,
+      in-log (c .args .terms .now .records .now) (c .args .steps .now) (c .args .t) (c .joining-k .result) (c .args .upto) (c .args .terms .now .few) (c .pre .long .0) (c .pre .formed) (c .pre .near) (c .joining-k .ensures .0),
+    )
 
 pub returns-then-marks-k : need.returns-then-marks-k
 returns-then-marks-k t c =
@@ -138,7 +196,7 @@ returns-then-marks-k t c =
     (met ts ss (c .args .rows .now) (c .args .t) (c .args .u) k (c .args .upto) (c .pre .tabled) (c .pre .near) (c .pre .far) (c .joining-k .ensures)) (c .sides-by .ensures)
     (c .explain .ensures) (c .explain-2 .ensures)
     (grown-marked ts ss _ k (in-log ts ss (c .args .t) k (c .args .upto) (c .args .terms .now .few) (c .pre .long .0) (c .pre .formed) (c .pre .near) below)
-      (c .explain-2 .ensures .whole) (c .if-marks-k .taken))
+    (c .explain-2 .ensures .whole) (c .if-marks-k .taken))
 
 pub index-terms-s : need.index-terms-s
 index-terms-s t c =
@@ -167,17 +225,34 @@ explain-requires-in-loop-i t c κs =
     let r = formed-at ts ss (c .args .upto) k below (c .pre .formed) in
     let cong = congruent-args ts ss k (c .in-Congruence .is) (r .0) in
     let i = c .loop-i .i in
-    let lower = c .args .terms .now .lower in
-    ( omega (arith, below)
-    , ( r .1
-    , ( fewer ts (c .args .rows .now) ss k (c .args .upto) below (c .pre .tabled)
-    , ( c .pre .long .0
-    , ( c .loop-i .inv .long ∙ c .explain-2 .ensures .long ∙ c .explain .ensures .long ∙ c .pre .long .1 .0
-    , ( c .pre .long .1 .1
-    , ( omega (arith, r .0 .left-in, lower (step-at ss k .left) (r .0 .left-in) i (c .loop-i-test .taken))
-    , ( omega (arith, r .0 .right-in, lower (step-at ss k .right) (r .0 .right-in) i (omega (arith, cong .1, c .loop-i-test .taken)))
-    , ( cong .2 i (c .loop-i-test .taken)
-    , c .loop-i .inv .whole )))))))))
+    let lower = c .args .terms .now .lower in (
+      omega (arith, below),
+      (
+        r .1,
+        (
+          fewer ts (c .args .rows .now) ss k (c .args .upto) below (c .pre .tabled),
+          (
+            c .pre .long .0,
+            (
+              c .loop-i .inv .long ∙ c .explain-2 .ensures .long ∙ c .explain .ensures .long ∙ c .pre .long .1 .0,
+              (
+                c .pre .long .1 .1,
+                (
+                  omega (arith, r .0 .left-in, lower (step-at ss k .left) (r .0 .left-in) i (c .loop-i-test .taken)),
+                  (
+                    omega (arith, r .0 .right-in, lower (step-at ss k .right) (r .0 .right-in) i (omega (arith, cong .1, c .loop-i-test .taken))),
+                    (
+                      cong .2 i (c .loop-i-test .taken),
+                      c .loop-i .inv .whole,
+                    ),
+                  ),
+                ),
+              ),
+            ),
+          ),
+        ),
+      ),
+    )
 
 pub loop-i-again : need.loop-i-again
 loop-i-again t c =
@@ -201,18 +276,18 @@ returns-in-Asserted t c =
     (met ts ss (c .args .rows .now) (c .args .t) (c .args .u) k (c .args .upto) (c .pre .tabled) (c .pre .near) (c .pre .far) (c .joining-k .ensures)) (c .sides-by .ensures)
     (c .explain .ensures) (c .explain-2 .ensures)
     (grown-mark ts ss os k inside in-marks (c .explain-2 .ensures .whole)
-      (asserted-covers ts ss os k (c .in-Asserted .field-0) inside in-marks (c .in-Asserted .is)))
+    (asserted-covers ts ss os k (c .in-Asserted .field-0) inside in-marks (c .in-Asserted .is)))
 
 -- a merge of congruent terms is marked once its arguments are covered
 mark-congruent : (ts : List Term) (ss : List Step) (os qs : List Bool) (k i : ℕ) → k < length ss → k < length qs → step-at ss k .reason ≡ Congruence
-  → i ≡ at ts (step-at ss k .left) .arity
-  → Grown ts ss os qs (λ p. any-below i (λ i. needed ts (until ss k) p (arg (at ts (step-at ss k .left)) i) (arg (at ts (step-at ss k .right)) i)))
-  → Grown ts ss os (set qs k true) (basis ts ss k)
+    → i ≡ at ts (step-at ss k .left) .arity
+    → Grown ts ss os qs (λ p. any-below i (λ i. needed ts (until ss k) p (arg (at ts (step-at ss k .left)) i) (arg (at ts (step-at ss k .right)) i)))
+    → Grown ts ss os (set qs k true) (basis ts ss k)
 mark-congruent ts ss os qs k i h hm e n g =
     let f : Grown ts ss os qs (basis ts ss k) = grown-as ts ss os qs _ (basis ts ss k)
-      (λ p. congruent-basis ts ss k e p ∙ ap (λ (x : ℕ). any-below x (λ i. needed ts (until ss k) p (arg (at ts (step-at ss k .left)) i) (arg (at ts (step-at ss k .right)) i))) (sym n)) g in
+    (λ p. congruent-basis ts ss k e p ∙ ap (λ (x : ℕ). any-below x (λ i. needed ts (until ss k) p (arg (at ts (step-at ss k .left)) i) (arg (at ts (step-at ss k .right)) i))) (sym n)) g in
     let m : Grown ts ss qs (set qs k true) (basis ts ss k) = grown-mark ts ss qs k h hm (g .whole)
-      (λ p b. covered-kept ss qs (set qs k true) (set-kept qs k hm) p (f .all p b)) in
+    (λ p b. covered-kept ss qs (set qs k true) (set-kept qs k hm) p (f .all p b)) in
     grown-as ts ss os (set qs k true) (λ p. basis ts ss k p || basis ts ss k p) (basis ts ss k) (λ p. sym (or-same (basis ts ss k p)))
     (grown-trans ts ss os qs (set qs k true) (basis ts ss k) (basis ts ss k) f m)
 

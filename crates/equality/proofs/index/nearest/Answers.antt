@@ -9,10 +9,11 @@ returns-then-same-head c =
     (sym (c .same-head .ensures) ∙ c .if-same-head .taken)
 
 pub loop-u-again : need.loop-u-again
-loop-u-again c =
-    ( omega arith
-    , c .loop-u .inv .1 ∙ nearest-past (c .args .terms .now .records .now) (c .args .t) (c .loop-u .u) (c .loop-u-test .taken)
-        (sym (c .same-head .ensures) ∙ c .if-same-head .left) )
+loop-u-again c = (
+  omega arith,
+  c .loop-u .inv .1 ∙ nearest-past (c .args .terms .now .records .now) (c .args .t) (c .loop-u .u) (c .loop-u-test .taken)
+      (sym (c .same-head .ensures) ∙ c .if-same-head .left),
+)
 
 pub returns : need.returns
 returns c = nearest-none (c .args .terms .now .records .now) (c .args .t) (c .loop-u .u) (c .loop-u-test .left) (c .loop-u .inv .1)

@@ -28,7 +28,7 @@ returns-then-clashing c =
     let ls = c .args .list .now in
     let f = clash-by (cell (c .args .rows .now) (c .args .count)) (c .args .claims .now) ls in
     sym (first-hit (length ls) f (c .loop-p .p) (c .loop-p .p) (c .loop-p-test .taken) (c .loop-p .inv)
-      (ap (λ (b : Bool). when b (c .loop-p .p)) (sym (c .clashing .ensures) ∙ c .if-clashing .taken)))
+    (ap (λ (b : Bool). when b (c .loop-p .p)) (sym (c .clashing .ensures) ∙ c .if-clashing .taken)))
     ∙ clash-same (c .args .terms .now .records .now) (c .args .claims .now) ls (c .args .steps .now) (c .args .rows .now) (c .args .count) (c .pre .listed) (c .pre .tabled) (c .pre .log)
 
 pub loop-p-again : need.loop-p-again

@@ -33,8 +33,8 @@ returns c =
     let ss = c .args .steps .now in
     let test : ℕ → Bool = λ p. needed ts (until ss (c .args .count)) p (c .args .t) (c .args .u) in
     let e : listed 0 (c .args .len) (λ p. eqb (c .args .d) p || getD (c .cite-all .last .cited) p false) ≡ listed 0 (c .args .len) (λ p. eqb (c .args .d) p || test p) =
-      cited-listed (c .cite-all .last .cited) (c .args .d) (c .args .len) test (omega (arith, c .pre .short, c .cite-all .kept .cited))
-      (λ p h. c .cite-all .ensures p (omega (arith, h, c .cite-all .kept .cited)) ∙ covers-test ts ss (c .args .table .now) (c .explain .last .marks) test p (c .pre .long .0) (c .pre .clear) (c .explain .ensures)) in
+    cited-listed (c .cite-all .last .cited) (c .args .d) (c .args .len) test (omega (arith, c .pre .short, c .cite-all .kept .cited))
+    (λ p h. c .cite-all .ensures p (omega (arith, h, c .cite-all .kept .cited)) ∙ covers-test ts ss (c .args .table .now) (c .explain .last .marks) test p (c .pre .long .0) (c .pre .clear) (c .explain .ensures)) in
     record {
       clear = search needs;
       told = c .write-core .ensures .told ∙ ap length e;

@@ -17,10 +17,11 @@ loop-t-holds c = (row-none _, refl)
 
 pub loop-t-again : need.loop-t-again
 loop-t-again c =
-    let fits : SFits w64 (c .number-x .result) = search needs in
-    ( row-more (c .loop-t .place) (c .loop-t .t) _ _ (omega (arith, c .loop-t-test .taken, c .pre .within, c .loop-t .kept .place)) (c .loop-t .inv .0)
-        (toZ-ofZ w64 (c .number-x .result) fits ∙ c .number-x .ensures)
-    , rest-more (c .args .place .now) (c .loop-t .place) (c .loop-t .t) _ (c .loop-t .inv .1) )
+    let fits : SFits w64 (c .number-x .result) = search needs in (
+      row-more (c .loop-t .place) (c .loop-t .t) _ _ (omega (arith, c .loop-t-test .taken, c .pre .within, c .loop-t .kept .place)) (c .loop-t .inv .0)
+          (toZ-ofZ w64 (c .number-x .result) fits ∙ c .number-x .ensures),
+      rest-more (c .args .place .now) (c .loop-t .place) (c .loop-t .t) _ (c .loop-t .inv .1),
+    )
 
 pub returns : need.returns
 returns c =

@@ -1,10 +1,7 @@
 -- The list is the one before the trial again, and the query was asked of the list with the literal.
-use mathlib.Core.Path.{_≡_, refl, sym, ap, _∙_}
-use mathlib.Core.List.{List, [], _∷_, _++_}
-use Prim.Native.Nat.{ℕ}
-use lib.ListN.{take}
-use Rattle.theory.specs.Calls.{querySays, queryLeaves}
-use Rattle.theory.specs.Trials.{trialQuerySays, trialQueryLeaves}
+use mathlib.Core.Path.{_≡_, ap, _∙_}
+use mathlib.Core.List.{[], _∷_, _++_}
+use Rattle.theory.specs.Calls.{takeBackLeaves, querySays, queryLeaves}
 use Rattle.theory.proofs.Ways.{opened, asked-says, asked-leaves}
 use Rattle.theory.proofs.trial.query_with.Needs as need
 
@@ -20,7 +17,7 @@ returns g c =
     let grown : tried ≡ ls ++ l ∷ [] = h .list ∙ o .list in
     record {
       shape = c .close .ensures .shape ∙ c .query-found .ensures .shape ∙ h .shape;
-      list = c .close .ensures .list ∙ ap (take (c .in-Continue-trial .trial .len)) (c .query-found .ensures .list ∙ grown) ∙ o .cut;
+      list = c .close .ensures .list ∙ ap (λ xs. takeBackLeaves xs (c .in-Continue-trial .trial .len)) (c .query-found .ensures .list ∙ grown) ∙ o .cut;
       says = c .query-found .ensures .says ∙ ap (λ s. querySays (g .T·Theory .means s) tried core) (h .shape) ∙ ap (λ xs. querySays M xs core) grown ∙ asked-says M ls l core (o .low) (o .new);
       place = c .query-found .ensures .place ∙ ap (λ s. queryLeaves (g .T·Theory .means s) tried core) (h .shape) ∙ ap (λ xs. queryLeaves M xs core) grown ∙ asked-leaves M ls l core (o .low) (o .new);
     }

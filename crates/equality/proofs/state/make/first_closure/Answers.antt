@@ -24,4 +24,4 @@ returns c =
     let g = c .settle-count .ensures in
     subst (λ (x : List ℕ). Closed ts (refilled v ss .items) n x) (sym (refilled-is u rows (c .settle-count .kept .rows ∙ c .deref-mut-2 .ensures .len)))
     (subst (λ (x : List Step). Closed ts x n rows) (sym (refilled-is v ss (c .settle-count .kept .steps ∙ c .deref-mut .ensures .len)))
-      (record { log-is = g .log-is; ready = g .ready }))
+    (record { log-is = g .log-is; ready = g .ready }))

@@ -24,8 +24,8 @@ from-is s r e = read-at (vec-items (s .merges)) (s .len) r (omega (arith, s .sho
 
 -- the closure that ran from what was read
 ran-from : (s : Equality) (l from r : ℕ) (old rs : List Step) (rows′ : List ℕ) → old ≡ vec-items (s .steps) → from ≡ getD (vec-items (s .merges)) (s .len) 0
-  → Ran (s .terms .records .now) old from rs r rows′ (absorb (s .terms .records .now) (s .claims .now) (s .len) l (until old from))
-  → Ran (s .terms .records .now) (vec-items (s .steps)) (getD (vec-items (s .merges)) (s .len) 0) rs r rows′
+    → Ran (s .terms .records .now) old from rs r rows′ (absorb (s .terms .records .now) (s .claims .now) (s .len) l (until old from))
+    → Ran (s .terms .records .now) (vec-items (s .steps)) (getD (vec-items (s .merges)) (s .len) 0) rs r rows′
     (absorb (s .terms .records .now) (s .claims .now) (s .len) l (until (vec-items (s .steps)) (getD (vec-items (s .merges)) (s .len) 0)))
 ran-from s l from r old rs rows′ eo ef ran =
     let ts = s .terms .records .now in
@@ -45,10 +45,10 @@ absorb-count-requires c κs =
     let low : c .args .l < 2 * length (s .claims .now) = c .if-l-self .left in
     let known : claim (c .args .l) < length (s .claims .now) = omega arith in
     let r : Ready ts (c .deref-mut .result .now) (c .index .result .now) (c .deref-mut-2 .result .now) =
-      subst (λ (x : List ℕ). Ready ts (c .deref-mut .result .now) (c .index .result .now) x) (sym (c .deref-mut-2 .ensures .value))
-      (subst (λ (x : List Step). Ready ts x (c .index .result .now) (vec-items (s .rows))) (sym (c .deref-mut .ensures .value))
-        (subst (λ (n : ℕ). Ready ts (vec-items (s .steps)) n (vec-items (s .rows))) (sym (from-is s (c .index .result .now) (c .index .ensures)))
-          (held-ready ts (s .claims .now) (vec-items (s .list)) (s .len) (vec-items (s .merges)) (vec-items (s .steps)) (vec-items (s .rows)) h))) in
+    subst (λ (x : List ℕ). Ready ts (c .deref-mut .result .now) (c .index .result .now) x) (sym (c .deref-mut-2 .ensures .value))
+    (subst (λ (x : List Step). Ready ts x (c .index .result .now) (vec-items (s .rows))) (sym (c .deref-mut .ensures .value))
+    (subst (λ (n : ℕ). Ready ts (vec-items (s .steps)) n (vec-items (s .rows))) (sym (from-is s (c .index .result .now) (c .index .ensures)))
+    (held-ready ts (s .claims .now) (vec-items (s .list)) (s .len) (vec-items (s .merges)) (vec-items (s .steps)) (vec-items (s .rows)) h))) in
     record {
       ready = r;
       long = c .deref-2 .ensures .len ∙ s .«near_long»;
@@ -66,7 +66,7 @@ module _ (s : Equality) (l from r : ℕ) (ls : List ℕ) (old rs : List Step) (r
   new = is-new s l ls el hn
 
   ran-here : Ran (s .terms .records .now) (vec-items (s .steps)) (getD (vec-items (s .merges)) (s .len) 0) rs r rows′
-    (absorb (s .terms .records .now) (s .claims .now) (s .len) l (until (vec-items (s .steps)) (getD (vec-items (s .merges)) (s .len) 0)))
+      (absorb (s .terms .records .now) (s .claims .now) (s .len) l (until (vec-items (s .steps)) (getD (vec-items (s .merges)) (s .len) 0)))
   ran-here = ran-from s l from r old rs rows′ eo (from-is s from ef) ran
 
   room : s .len < 128
@@ -80,41 +80,76 @@ module _ (s : Equality) (l from r : ℕ) (ls : List ℕ) (old rs : List Step) (r
 
   -- the parts as they are stored
   stored : length rs ≡ s .steps .len → length rows′ ≡ s .rows .len
-    → Held (s .terms .records .now) (s .claims .now) (set (vec-items (s .list)) (s .len) l) (s .len + 1) (set (vec-items (s .merges)) (s .len + 1) r) (refilled (s .steps) rs .items) (refilled (s .rows) rows′ .items)
+      → Held (s .terms .records .now) (s .claims .now) (set (vec-items (s .list)) (s .len) l) (s .len + 1) (set (vec-items (s .merges)) (s .len + 1) r) (refilled (s .steps) rs .items) (refilled (s .rows) rows′ .items)
   stored a b =
       subst (λ (x : List ℕ). Held (s .terms .records .now) (s .claims .now) (set (vec-items (s .list)) (s .len) l) (s .len + 1) (set (vec-items (s .merges)) (s .len + 1) r) (refilled (s .steps) rs .items) x) (sym (refilled-is (s .rows) rows′ b))
       (subst (λ (x : List Step). Held (s .terms .records .now) (s .claims .now) (set (vec-items (s .list)) (s .len) l) (s .len + 1) (set (vec-items (s .merges)) (s .len + 1) r) x rows′) (sym (refilled-is (s .steps) rs a))
-        (held-push (s .terms .records .now) (s .claims .now) (vec-items (s .list)) (s .len) (vec-items (s .merges)) (vec-items (s .steps)) (vec-items (s .rows)) (held s) l r rs rows′ low new ran-here))
+      (held-push (s .terms .records .now) (s .claims .now) (vec-items (s .list)) (s .len) (vec-items (s .merges)) (vec-items (s .steps)) (vec-items (s .rows)) (held s) l r rs rows′ low new ran-here))
 
 pub index-mut-requires : need.index-mut-requires
 index-mut-requires c κs =
     let s = c .args .self .now in
-    omega (arith, s .«list_long»,
+    omega (
+      arith,
+      s .«list_long»,
       room s (c .args .l) (c .index .result .now) (c .absorb-count .result) (c .deref .result .now) (c .deref-mut .result .now) (c .absorb-count .last .steps) (c .absorb-count .last .rows)
-        (c .deref-mut .ensures .value) (c .index .ensures) (c .if-l-self .left) (c .deref .ensures .value) (sym (c .if-names .left) ∙ c .names .ensures) (c .absorb-count .ensures))
+          (c .deref-mut .ensures .value) (c .index .ensures) (c .if-l-self .left) (c .deref .ensures .value) (sym (c .if-names .left) ∙ c .names .ensures) (c .absorb-count .ensures),
+    )
 
 pub cast-self : need.cast-self
 cast-self c =
     let s = c .args .self .now in
-    record { fits = omega (arith,
-      few s (c .args .l) (c .index .result .now) (c .absorb-count .result) (c .deref .result .now) (c .deref-mut .result .now) (c .absorb-count .last .steps) (c .absorb-count .last .rows)
-        (c .deref-mut .ensures .value) (c .index .ensures) (c .if-l-self .left) (c .deref .ensures .value) (sym (c .if-names .left) ∙ c .names .ensures) (c .absorb-count .ensures)) }
+    record {
+      fits = omega (
+        arith,
+        few s (c .args .l) (c .index .result .now) (c .absorb-count .result) (c .deref .result .now) (c .deref-mut .result .now) (c .absorb-count .last .steps) (c .absorb-count .last .rows)
+            (c .deref-mut .ensures .value) (c .index .ensures) (c .if-l-self .left) (c .deref .ensures .value) (sym (c .if-names .left) ∙ c .names .ensures) (c .absorb-count .ensures),
+      );
+    }
 
 pub index-mut-requires-2 : need.index-mut-requires-2
 index-mut-requires-2 c κs =
     let s = c .args .self .now in
-    omega (arith, s .«merges_long»,
+    omega (
+      arith,
+      s .«merges_long»,
       room s (c .args .l) (c .index .result .now) (c .absorb-count .result) (c .deref .result .now) (c .deref-mut .result .now) (c .absorb-count .last .steps) (c .absorb-count .last .rows)
-        (c .deref-mut .ensures .value) (c .index .ensures) (c .if-l-self .left) (c .deref .ensures .value) (sym (c .if-names .left) ∙ c .names .ensures) (c .absorb-count .ensures))
+          (c .deref-mut .ensures .value) (c .index .ensures) (c .if-l-self .left) (c .deref .ensures .value) (sym (c .if-names .left) ∙ c .names .ensures) (c .absorb-count .ensures),
+    )
 
 pub ghost-self-2 : need.ghost-self-2
 ghost-self-2 c =
     let s = c .args .self .now in
     let h = stored s (c .args .l) (c .index .result .now) (c .absorb-count .result) (c .deref .result .now) (c .deref-mut .result .now) (c .absorb-count .last .steps) (c .absorb-count .last .rows)
-        (c .deref-mut .ensures .value) (c .index .ensures) (c .if-l-self .left) (c .deref .ensures .value) (sym (c .if-names .left) ∙ c .names .ensures) (c .absorb-count .ensures)
-        (c .absorb-count .kept .steps ∙ c .deref-mut .ensures .len) (c .absorb-count .kept .rows ∙ c .deref-mut-2 .ensures .len) in
-    (s .few, (s .named, (s .«near_long», (s .indexed, (s .«list_long», (s .«merges_long», (s .«steps_long», (s .«rows_long», (s .«marks_long»,
-    (h .short, (h .proper .below, (h .proper .apart-claims, (h .rising, (h .logged, ((λ k t p. h .tabled k t (p .0) (p .1)), (s .clear, tt))))))))))))))))
+    (c .deref-mut .ensures .value) (c .index .ensures) (c .if-l-self .left) (c .deref .ensures .value) (sym (c .if-names .left) ∙ c .names .ensures) (c .absorb-count .ensures)
+    (c .absorb-count .kept .steps ∙ c .deref-mut .ensures .len) (c .absorb-count .kept .rows ∙ c .deref-mut-2 .ensures .len) in (
+      s .few,
+      (
+        s .named,
+        (
+          s .«near_long»,
+          (
+            s .indexed,
+            (
+              s .«list_long»,
+              (
+                s .«merges_long»,
+                (
+                  s .«steps_long»,
+                  (
+                    s .«rows_long»,
+                    (
+                      s .«marks_long»,
+                      (h .short, (h .proper .below, (h .proper .apart-claims, (h .rising, (h .logged, ((λ k t p. h .tabled k t (p .0) (p .1)), (s .clear, tt))))))),
+                    ),
+                  ),
+                ),
+              ),
+            ),
+          ),
+        ),
+      ),
+    )
 
 pub returns : need.returns
 returns c =
@@ -125,5 +160,5 @@ returns c =
       shape = refl;
       says = w .0;
       list = front s (c .args .l) (c .index .result .now) (c .absorb-count .result) (c .deref .result .now) (c .deref-mut .result .now) (c .absorb-count .last .steps) (c .absorb-count .last .rows)
-        (c .deref-mut .ensures .value) (c .index .ensures) (c .if-l-self .left) (c .deref .ensures .value) hn (c .absorb-count .ensures) ∙ w .1;
+          (c .deref-mut .ensures .value) (c .index .ensures) (c .if-l-self .left) (c .deref .ensures .value) hn (c .absorb-count .ensures) ∙ w .1;
     }

@@ -37,6 +37,31 @@ ghost-self-in-Some c =
     let s = c .args .self .now in
     let table = c .core-n .last .table in
     let clear : (k : ℕ) → getD (refilled (s .marks) table .items) k false ≡ false =
-      λ k. ap (λ (xs : List Bool). getD xs k false) (refilled-is (s .marks) table (c .core-n .kept .table ∙ c .deref-mut .ensures .len)) ∙ c .core-n .ensures .clear .1 k in
-    (s .few, (s .named, (s .«near_long», (s .indexed, (s .«list_long», (s .«merges_long», (s .«steps_long», (s .«rows_long», (s .«marks_long»,
-    (s .short, (s .below, (s .distinct, (s .rising, (s .logged, (s .tabled, (clear, tt))))))))))))))))
+    λ k. ap (λ (xs : List Bool). getD xs k false) (refilled-is (s .marks) table (c .core-n .kept .table ∙ c .deref-mut .ensures .len)) ∙ c .core-n .ensures .clear .1 k in (
+      s .few,
+      (
+        s .named,
+        (
+          s .«near_long»,
+          (
+            s .indexed,
+            (
+              s .«list_long»,
+              (
+                s .«merges_long»,
+                (
+                  s .«steps_long»,
+                  (
+                    s .«rows_long»,
+                    (
+                      s .«marks_long»,
+                      (s .short, (s .below, (s .distinct, (s .rising, (s .logged, (s .tabled, (clear, tt))))))),
+                    ),
+                  ),
+                ),
+              ),
+            ),
+          ),
+        ),
+      ),
+    )

@@ -51,7 +51,7 @@ returns-in-None c =
       list = refl;
       says = done .0;
       place = c .write-labels .ensures
-        ∙ ap (λ (l : List ℤ). over l (c .args .place .now)) (row-same 0 (length ts) (λ t. pos (cell rows n t)) (λ t. pos (label (log-of ts claims ls) t)) (λ t a b.
-            ap pos (w .tabled n t (omega arith) (omega arith) ∙ ap (λ (l : List Step). label l t) (w .log) ∙ ap (λ (x : List ℕ). label (log-of ts claims x) t) front)))
-        ∙ done .1;
+          ∙ ap (λ (l : List ℤ). over l (c .args .place .now)) (row-same 0 (length ts) (λ t. pos (cell rows n t)) (λ t. pos (label (log-of ts claims ls) t)) (λ t a b.
+          ap pos (w .tabled n t (omega arith) (omega arith) ∙ ap (λ (l : List Step). label l t) (w .log) ∙ ap (λ (x : List ℕ). label (log-of ts claims x) t) front)))
+          ∙ done .1;
     }

@@ -1,0 +1,5 @@
+pub mod Pieces
+pub mod Words
+pub mod Lines
+pub mod Books
+pub mod Canonical
