@@ -12,6 +12,7 @@ use theory::Refusal;
 use theory::Term;
 use theory::Theory;
 use theory::Unmade;
+use theory::literal::complement_of;
 use theory::trial::query_with;
 
 fn constant(symbol: u16) -> Term {
@@ -121,6 +122,12 @@ fn claims_of(heap: Global, n: u16) -> Result<Vec<Claim>, AllocError> {
         claims.push(same(0, 0))?;
     }
     Ok(claims)
+}
+
+#[test]
+fn complements() -> Result<(), Fail> {
+    check_eq(complement_of(6), 7)?;
+    check_eq(complement_of(7), 6)
 }
 
 #[test]

@@ -46,3 +46,12 @@ pub record Lawful (M : Meaning) : Type 0 where
   -- where it is impossible, the core's literals hold together in no fit
   pub core-rises : (ls core : List ℕ) → Proper (M .claims) ls → M .answer ls ≡ impossible core → Rising (length ls) core
   pub core-fails : (ls core : List ℕ) → Proper (M .claims) ls → M .answer ls ≡ impossible core → (v : List ℤ) → Fit M v → All (λ p. M .Holds (getD ls p 0) v) core → ⊥
+
+-- some fit makes every literal of a list hold
+abbrev pub Together : Meaning → List ℕ → Type 0
+Together M ls = (v : List ℤ) × Fit M v × All (λ l. M .Holds l v) ls
+
+-- the answer is possible exactly if the literals of the list hold together in some fit
+pub record Exact (M : Meaning) : Type 0 where
+  pub only-then : (ls : List ℕ) → Proper (M .claims) ls → M .answer ls ≡ possible → Together M ls
+  pub whenever : (ls : List ℕ) → Proper (M .claims) ls → Together M ls → M .answer ls ≡ possible

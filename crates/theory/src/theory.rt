@@ -4,7 +4,7 @@ ghost use mathlib.Core.List.{List};
 ghost use Prim.Native.Nat.{ℕ};
 ghost use lib.ListN.{length};
 ghost use Rattle.theory.specs.Literals.{Proper};
-ghost use Rattle.theory.specs.Meaning.{Meaning, Lawful};
+ghost use Rattle.theory.specs.Meaning.{Meaning, Lawful, Exact};
 ghost use Rattle.theory.specs.Calls.{reply, assertSays, assertLeaves, takeBackSays, takeBackLeaves, querySays, queryLeaves, writeSays, writeLeaves};
 use crate::literal::Literal;
 use crate::refusal::Found;
@@ -19,12 +19,17 @@ pub trait Theory {
 
     ghost shapeOf: { Self → Shape };
 
+    // The numbers of claims and terms, the fits, which literals hold in a fit, and what a list of
+    // literals is answered.
     ghost means: { Shape → Meaning };
 
+    // The literals asserted so far.
     ghost asserted: { Self → List ℕ };
 
+    // The law, which each implementation owes.
     ghost lawful: { (t : Self) → Lawful (means (shapeOf t)) };
 
+    // Literals of the theory's claims, no claim twice.
     ghost proper: { (t : Self) → Proper (means (shapeOf t) .claims) (asserted t) };
 
     /// The number of claims.
@@ -64,4 +69,11 @@ pub trait Theory {
         ensures list { λ _. ⌜ asserted (now (self .exit)) ≡ asserted (now (self .entry)) ⌝ }
         ensures says { λ r. ⌜ reply r ≡ writeSays (means (shapeOf (now (self .entry)))) (asserted (now (self .entry))) (now (place .entry)) ⌝ }
         ensures place { λ _. ⌜ now (place .exit) ≡ writeLeaves (means (shapeOf (now (self .entry)))) (asserted (now (self .entry))) (now (place .entry)) ⌝ };
+}
+
+/// What the law gives of every theory: a query answers possible exactly if some fit makes every literal of the list hold.
+pub fn answers_stand<T: Theory>(theory: &T) -> u8
+    ensures { λ _. ⌜ Exact (T·Theory .means (T·Theory .shapeOf (now (theory .entry)))) ⌝ }
+{
+    0
 }
