@@ -12,4 +12,5 @@ pub use refusal::Refusal;
 pub use refusal::Unmade;
 pub use term::Term;
 pub use theory::Theory;
+pub use theory::answers_stand;
 pub use trial::Trial;
