@@ -2,12 +2,11 @@
 use Rattle.std.specs.Prelude.{◌≡◌, ℕ, zero, suc, ◌+◌, ◌%◌, ◌<◌, ◌≤◌, Bool, true, not, ◌&&◌, ◌||◌, List, [], ◌∷◌, length, get_or, ℤ, pos, Some, None, Option, ◌==◌, ◌≢◌, slice_index, slice_index_or}
 use Rattle.theory.specs.declared.term.Term.{Term}
 use Rattle.theory.specs.Literals.{has, Proper}
-use Rattle.theory.specs.Positions.{listed}
 use Rattle.theory.specs.Meaning.{Answer, possible, impossible, Meaning, Lawful}
 use Rattle.congruence.specs.declared.claim.Claim.{Claim}
 use Rattle.congruence.specs.Table.{Lower}
 use Rattle.congruence.specs.Congruence.{Fit, Joined}
-use Rattle.congruence.specs.Merges.{when, first, label, pair_at, pair_of, log_of, needed}
+use Rattle.congruence.specs.Merges.{when, first, label, pair_at, pair_of, log_of, needed, listed}
 
 -- the number of a term
 abbrev pub num : List ℤ → ℕ → ℤ

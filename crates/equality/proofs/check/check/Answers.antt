@@ -1,20 +1,26 @@
-use Rattle.std.proofs.Common.{sym, ◌∙◌}
+use Rattle.std.proofs.Common.{sym, ◌∙◌, arith}
 use Rattle.std.proofs.lemmas.Bool.{true≢false}
-use Rattle.equality.specs.Checks.{past_limit, not_lower, no_term}
+use Rattle.equality.specs.Checks.{Limits, Barred, past_limit, not_lower, no_term}
 use Rattle.equality.proofs.check.check.Goals as goal
+use Rattle.equality.proofs.check.check.Goals.{then-terms-gt256-via-then-terms-gt256, then-terms-gt256-via-else-terms-gt256+then-claims-gt128, then-terms-gt256-via-else-terms-gt256+else-claims-gt128+then-not-few-arguments}
 
-pub returns-then-not-within-limits : goal.returns-then-not-within-limits
-returns-then-not-within-limits c = past_limit (λ l. true≢false (sym (c.within-limits.ensures.1 l) ∙ c.if-not-within-limits.true))
+pub returns-then-terms-gt256 : goal.returns-then-terms-gt256
+returns-then-terms-gt256 c = past_limit (λ l.
+    elim c.then-terms-gt256.branch [
+      | then-terms-gt256-via-then-terms-gt256 w ↦ omega (arith, w.if-terms-gt256.true, l.few_terms)
+      | then-terms-gt256-via-else-terms-gt256+then-claims-gt128 w ↦ omega (arith, w.if-claims-gt128.true, l.few_claims)
+      | then-terms-gt256-via-else-terms-gt256+else-claims-gt128+then-not-few-arguments w ↦ true≢false (sym (w.few-arguments.ensures.1 l.arities) ∙ w.if-not-few-arguments.true)
+    ])
 
 pub returns-then-not-lower-arguments : goal.returns-then-not-lower-arguments
 returns-then-not-lower-arguments c =
     not_lower
-    (c.within-limits.ensures.0 c.if-not-within-limits.false)
+    (record { few_terms = c.if-terms-gt256.false; few_claims = c.if-claims-gt128.false; arities = c.few-arguments.ensures.0 c.if-not-few-arguments.false })
     (λ h. true≢false (sym (c.lower-arguments.ensures.1 h) ∙ c.if-not-lower-arguments.true))
 
 pub returns-then-not-named-terms : goal.returns-then-not-named-terms
 returns-then-not-named-terms c =
     no_term
-    (c.within-limits.ensures.0 c.if-not-within-limits.false)
+    (record { few_terms = c.if-terms-gt256.false; few_claims = c.if-claims-gt128.false; arities = c.few-arguments.ensures.0 c.if-not-few-arguments.false })
     (c.lower-arguments.ensures.0 c.if-not-lower-arguments.false)
     (λ h. true≢false (sym (c.named-terms.ensures.1 h) ∙ c.if-not-named-terms.true))

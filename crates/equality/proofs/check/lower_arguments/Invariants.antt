@@ -1,6 +1,5 @@
 use Rattle.std.proofs.Common.{ℕ, ◌<◌}
-use Rattle.theory.specs.Terms.{at}
-use Rattle.congruence.specs.Table.{arg}
+use Rattle.congruence.specs.Table.{at, arg}
 use Rattle.equality.proofs.check.lower_arguments.Given as goal
 
 abbrev pub invariant-loop-k : goal.invariant-loop-k

@@ -1,8 +1,7 @@
-use Rattle.std.proofs.Common.{◌||◌, eqb, List, length, get_or, sym, ap, ◌∙◌}
+use Rattle.std.proofs.Common.{◌≡◌, ℕ, ◌||◌, eqb, List, length, get_or, sym, refl, ap, ◌∙◌, subst, arith}
 use Rattle.theory.specs.Calls.{over}
 use Rattle.congruence.specs.declared.step.Step.{Step}
-use Rattle.theory.specs.Positions.{listed}
-use Rattle.congruence.specs.Merges.{needed, pair_of, label}
+use Rattle.congruence.specs.Merges.{listed, needed, pair_of, label}
 use Rattle.equality.proofs.Asking.{clash_at}
 use Rattle.equality.proofs.query.core.Goals as goal
 

@@ -1,9 +1,8 @@
-use Rattle.std.proofs.Common.{◌≡◌, ℕ, Bool, false, ◌||◌, eqb, List, length, get_or, sym, ap, ◌∙◌, arith, rules}
+use Rattle.std.proofs.Common.{◌≡◌, ℕ, ◌<◌, ◌≤◌, Bool, false, ◌||◌, eqb, List, length, get_or, sym, refl, ap, ◌∙◌, subst, arith, rules}
 use lib.ListN.{get_or-replicate}
 use Rattle.std.proofs.lemmas.Bool.{true≢false}
 use Rattle.theory.specs.Calls.{over}
-use Rattle.theory.specs.Positions.{listed}
-use Rattle.congruence.specs.Merges.{needed}
+use Rattle.congruence.specs.Merges.{listed, needed}
 use Rattle.equality.specs.Logs.{until}
 use Rattle.equality.proofs.Asking.{covers_test, cited_listed}
 use Rattle.equality.proofs.query.core_of.Goals as goal

@@ -1,7 +1,11 @@
-use Rattle.std.proofs.Common.{sym, ◌∙◌}
-use Rattle.theory.proofs.Positions.{partly_as, partly_start, partly_put, partly_skip, partly_end}
+use Rattle.std.proofs.Common.{◌≡◌, ℕ, ◌+◌, ◌<◌, ◌≤◌, Bool, List, length, set, sym, refl, ap, ◌∙◌, subst, arith}
+use Rattle.equality.proofs.Listing.{Partly, partly_start, partly_put, partly_skip, partly_end}
 use Rattle.equality.proofs.query.write_core.Goals as goal
 use Rattle.equality.proofs.query.write_core.Goals.{then-in-core, else-in-core}
+
+partly_as : (row : List ℕ) (p len : ℕ) (test : ℕ → Bool) (old new new' : List ℕ) (n n' : ℕ) → new' ≡ new → n' ≡ n → Partly row p len test old new n → Partly row p len test old new' n'
+partly_as row p len test old new new' n n' e f x =
+    subst (λ (l : List ℕ). Partly row p len test old l n') (sym e) (subst (λ (k : ℕ). Partly row p len test old new k) (sym f) x)
 
 pub loop-p-init : goal.loop-p-init
 loop-p-init c = partly_start c.args.len _ c.args.place.now

@@ -1,6 +1,6 @@
 use Rattle.std.proofs.Common.{false, ◌||◌, eqb, get_or}
-use Rattle.theory.specs.Positions.{listed}
-use Rattle.theory.proofs.Positions.{Partly}
+use Rattle.congruence.specs.Merges.{listed}
+use Rattle.equality.proofs.Listing.{Partly}
 use Rattle.equality.proofs.query.write_core.Given as goal
 
 abbrev pub invariant-loop-p : goal.invariant-loop-p

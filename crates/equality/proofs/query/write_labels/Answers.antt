@@ -1,8 +1,8 @@
-use Rattle.std.proofs.Common.{◌≡◌, ℕ, take, drop, ℤ, pos, sym, refl, ap, ◌∙◌, arith, w64, SFits, rules}
+use Rattle.std.proofs.Common.{◌≡◌, ℕ, length, take, drop, ℤ, pos, sym, refl, ap, ◌∙◌, arith, w64, SFits, rules}
 use Rattle.std.proofs.lemmas.Int.{to_z-of_z}
 use Rattle.congruence.specs.Equality.{row}
 use Rattle.equality.specs.Logs.{cell}
-use Rattle.equality.proofs.Rows.{row_none, row_more, rest_more, row_written}
+use Rattle.equality.proofs.Listing.{row_none, row_more, rest_more, row_written}
 use Rattle.equality.proofs.query.write_labels.Goals as goal
 
 pub loop-t-init : goal.loop-t-init

@@ -1,4 +1,4 @@
-use Rattle.std.proofs.Common.{◌≡◌, ℕ, ◌-◌, List, length, take, ℤ, pos, None, vec_items, sym, refl, ap, ◌∙◌, arith}
+use Rattle.std.proofs.Common.{◌≡◌, ℕ, ◌+◌, ◌-◌, ◌*◌, ◌<◌, ◌≤◌, List, length, get_or, take, ℤ, pos, None, vec_items, sym, refl, ap, ◌∙◌, subst, arith}
 use Rattle.theory.specs.Calls.{over}
 use Rattle.theory.proofs.Lists.{written}
 use Rattle.congruence.specs.declared.step.Step.{Step}
@@ -6,7 +6,7 @@ use Rattle.congruence.specs.Merges.{label, log_of}
 use Rattle.congruence.specs.Equality.{clash, core, answer_of, equality}
 use Rattle.equality.specs.Logs.{cell}
 use Rattle.equality.proofs.Growing.{merges_room, merges_few}
-use Rattle.equality.proofs.Rows.{row_same}
+use Rattle.equality.proofs.Listing.{row_same}
 use Rattle.equality.proofs.Holding.{read, lent_front}
 use Rattle.equality.proofs.state.calls.EqualityTheory.write.Goals as goal
 
