@@ -16,7 +16,7 @@ returns-then-next-count c =
     let i = c.loop-left.invariant in
     let g = c.sweep-next.ensures in
     let rs = c.sweep-next.new.steps in
-    let still : sweep ts (length ts) log ≡ log = sym g.log-is ∙ ap (until rs) c.if-next-count.true ∙ g.before c.loop-left.count (omega arith) in
+    let still : sweep ts (length ts) log ≡ log = sym g.log_is ∙ ap (until rs) c.if-next-count.true ∙ g.before c.loop-left.count (omega arith) in
     subst (λ (k : ℕ). Ran ts c.args.steps.now c.args.from rs k c.sweep-next.new.rows (settle ts (length ts) (until c.args.steps.now c.args.from))) c.if-next-count.true
     (ran_as ts c.args.steps.now rs c.args.from c.sweep-next.result c.sweep-next.new.rows _ _
     (still ∙ sym (i.1 ∙ settle_still ts c.loop-left.left log still))
@@ -31,8 +31,8 @@ loop-left-preserved c =
     let rs = c.sweep-next.new.steps in
     let next = c.sweep-next.result in (
       ran_on ts c.args.steps.now c.loop-left.steps rs c.args.from c.loop-left.count next c.loop-left.rows c.sweep-next.new.rows log (until rs next) i.0
-          (ran_as ts c.loop-left.steps rs c.loop-left.count next c.sweep-next.new.rows _ _ (sym g.log-is) g),
-      i.1 ∙ settle_more ts c.loop-left.left log c.loop-left-test.true ∙ ap (settle ts (c.loop-left.left - 1)) (sym g.log-is),
+          (ran_as ts c.loop-left.steps rs c.loop-left.count next c.sweep-next.new.rows _ _ (sym g.log_is) g),
+      i.1 ∙ settle_more ts c.loop-left.left log c.loop-left-test.true ∙ ap (settle ts (c.loop-left.left - 1)) (sym g.log_is),
     )
 
 pub returns : goal.returns

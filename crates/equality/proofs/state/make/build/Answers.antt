@@ -22,7 +22,7 @@ logged : (ts : List Term) (claims : List Claim) (list merges : List ℕ) (ss : L
     → (k : ℕ) → k ≤ 0 → until ss (get_or merges k 0) ≡ log_at ts claims list k
 logged ts claims list merges ss n rows w e k h =
     let z : k ≡ 0 = omega arith in
-    ap (λ (j : ℕ). until ss (get_or merges j 0)) z ∙ ap (until ss) e ∙ w.log-is ∙ log_at_none ts claims list ∙ ap (log_at ts claims list) (sym z)
+    ap (λ (j : ℕ). until ss (get_or merges j 0)) z ∙ ap (until ss) e ∙ w.log_is ∙ log_at_none ts claims list ∙ ap (log_at ts claims list) (sym z)
 
 pub invariant-of-result : goal.invariant-of-result
 invariant-of-result c =

@@ -21,4 +21,4 @@ returns c =
     let g = c.settle-count.ensures in
     subst (λ (x : List ℕ). Closed ts (with_items v ss).items n x) (sym (with_items_is u rows (c.settle-count.auto.rows ∙ c.deref-mut-2.ensures.len)))
     (subst (λ (x : List Step). Closed ts x n rows) (sym (with_items_is v ss (c.settle-count.auto.steps ∙ c.deref-mut.ensures.len)))
-    (record { log_is = g.log-is; ready = g.ready }))
+    (record { log_is = g.log_is; ready = g.ready }))

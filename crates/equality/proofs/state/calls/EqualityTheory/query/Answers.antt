@@ -8,7 +8,7 @@ pub clash-requires : goal.clash-requires
 clash-requires c =
     let s = c.args.self.now in
     let w = read s c.index.result.now c.deref.result.now c.deref-2.result.now c.deref-3.result.now c.deref.ensures.value c.deref-2.ensures.value c.deref-3.ensures.value c.index.ensures in
-    record { short = w.short; listed = w.listed; formed = w.formed; tabled = w.tabled; log = w.log; long = w.rows-long }
+    record { short = w.short; listed = w.listed; formed = w.formed; tabled = w.tabled; log = w.log; long = w.rows_long }
 
 pub core-n-requires : goal.core-n-requires
 core-n-requires c =
@@ -20,7 +20,7 @@ core-n-requires c =
       formed = w.formed;
       tabled = w.tabled;
       log = w.log;
-      long = (w.steps_long, (c.deref-mut.ensures.len ∙ s.marks_long, w.rows-long));
+      long = (w.steps_long, (c.deref-mut.ensures.len ∙ s.marks_long, w.rows_long));
       clear = λ k. ap (λ (xs : List Bool). get_or xs k false) c.deref-mut.ensures.value ∙ s.clear k;
       clash = sym c.in-Some.is ∙ c.clash.ensures;
       within = omega (arith, w.few, c.if-place-self.false);

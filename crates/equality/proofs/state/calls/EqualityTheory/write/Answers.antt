@@ -14,7 +14,7 @@ pub clash-requires : goal.clash-requires
 clash-requires c =
     let s = c.args.self.now in
     let w = read s c.index.result.now c.deref.result.now c.deref-2.result.now c.deref-3.result.now c.deref.ensures.value c.deref-2.ensures.value c.deref-3.ensures.value c.index.ensures in
-    record { short = w.short; listed = w.listed; formed = w.formed; tabled = w.tabled; log = w.log; long = w.rows-long }
+    record { short = w.short; listed = w.listed; formed = w.formed; tabled = w.tabled; log = w.log; long = w.rows_long }
 
 pub write-labels-requires : goal.write-labels-requires
 write-labels-requires c =
@@ -23,7 +23,7 @@ write-labels-requires c =
     let n = c.index.result.now in
     let w = read s n c.deref.result.now c.deref-2.result.now c.deref-in-None.result.now c.deref.ensures.value c.deref-2.ensures.value c.deref-in-None.ensures.value c.index.ensures in
     record {
-      room = (s.terms.few, ((λ some. omega (arith, merges_room ts c.deref-2.result.now n 0 w.formed some, w.rows-long, s.terms.few)), omega (arith, merges_few ts c.deref-2.result.now n w.formed, s.terms.few)));
+      room = (s.terms.few, ((λ some. omega (arith, merges_room ts c.deref-2.result.now n 0 w.formed some, w.rows_long, s.terms.few)), omega (arith, merges_few ts c.deref-2.result.now n w.formed, s.terms.few)));
       within = c.if-place-m.false;
     }
 
