@@ -12,7 +12,7 @@ returns-in-err-short c =
     ∙ c.loop-word.invariant
 
 pub loop-word-preserved : goal.loop-word-preserved
-loop-word-preserved c = sym (checked_more c.args.words.now c.loop-word.word-index (Known (kind Theory)) c.in-ok-short.field-0 c.loop-word-test.true c.in-ok-short.ensures) ∙ c.loop-word.invariant
+loop-word-preserved c = sym (checked_more c.args.words.now c.loop-word.word-index (Known (kind Theory)) c.in_ok-short.field-0 c.loop-word-test.true c.in_ok-short.ensures) ∙ c.loop-word.invariant
 
 pub returns : goal.returns
 returns c = sym (checked_all c.args.words.now c.loop-word.word-index c.loop-word-test.false) ∙ c.loop-word.invariant

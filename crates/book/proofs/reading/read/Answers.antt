@@ -20,9 +20,9 @@ loop-rest-preserved c =
     let b = contents_of c.loop-rest.book in
     let some : 0 < length rest = omega (arith, false-eqb _ 0 c.loop-rest-test.ensures) in
     let less = after_less Newline rest some in
-    let done : turn (n + 1) s b (before Newline rest) ≡ Ok (c.in-ok-stage.stage, contents_of c.read-line.new.book) = ap (turn (n + 1) s b) (sym c.before-in-loop-rest.ensures) ∙ c.in-ok-stage.ensures in (
-      ap (λ v. reads (n + 1) c.in-ok-stage.stage (contents_of c.read-line.new.book) (pieces Newline v)) c.after-rest.ensures
-          ∙ sym (reads_more n s b (before Newline rest) (pieces Newline (after Newline rest)) c.in-ok-stage.stage (contents_of c.read-line.new.book) done)
+    let done : turn (n + 1) s b (before Newline rest) ≡ Ok (c.in_ok-stage.stage, contents_of c.read_line.new.book) = ap (turn (n + 1) s b) (sym c.before-in-loop-rest.ensures) ∙ c.in_ok-stage.ensures in (
+      ap (λ v. reads (n + 1) c.in_ok-stage.stage (contents_of c.read_line.new.book) (pieces Newline v)) c.after-rest.ensures
+          ∙ sym (reads_more n s b (before Newline rest) (pieces Newline (after Newline rest)) c.in_ok-stage.stage (contents_of c.read_line.new.book) done)
           ∙ ap (reads n s b) (sym (first_piece Newline rest some))
           ∙ c.loop-rest.invariant.0,
       omega (arith, c.loop-rest.invariant.1, ap length c.after-rest.ensures, less),

@@ -18,5 +18,5 @@ returns-in-err-stage c =
 
 pub returns : goal.returns
 returns c =
-    let is = c.meaning.ensures ∙ ap said_by (c.deref.ensures.value ∙ c.in-ok-words.ensures) in
-    turn_done c.args.line c.args.stage (contents_of c.args.book.now) c.args.bytes.now c.meaning.result is c.in-ok-said.said c.in-ok-said.ensures c.next.result c.next.ensures c.in-ok-stage.stage (contents_of c.put.new.book) c.in-ok-stage.ensures c.in-ok-put.ensures
+    let is = c.meaning.ensures ∙ ap said_by (c.deref.ensures.value ∙ c.in_ok-words.ensures) in
+    turn_done c.args.line c.args.stage (contents_of c.args.book.now) c.args.bytes.now c.meaning.result is c.in_ok-said.said c.in_ok-said.ensures c.next.result c.next.ensures c.in_ok-stage.stage (contents_of c.put.new.book) c.in_ok-stage.ensures c.in-ok-put.ensures

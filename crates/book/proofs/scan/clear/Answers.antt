@@ -6,7 +6,7 @@ pub returns-then-is-mark : goal.returns-then-is-mark
 returns-then-is-mark c = omega (arith, c.loop-i.invariant, length_here c.args.mark c.args.bytes.now c.loop-i.i c.loop-i-test.true (sym c.if-is-mark.ensures))
 
 pub loop-i-preserved : goal.loop-i-preserved
-loop-i-preserved c = omega (arith, c.loop-i.invariant, length_past c.args.mark c.args.bytes.now c.loop-i.i c.loop-i-test.true (sym c.if-is-mark.ensures))
+loop-i-preserved c = omega (arith, c.loop-i.invariant, length_past c.args.mark c.args.bytes.now c.loop-i.i c.loop-i-test.true (sym c.if-is_mark.ensures))
 
 pub returns : goal.returns
 returns c = omega (arith, c.loop-i.invariant, length_end c.args.mark c.args.bytes.now c.loop-i.i c.loop-i-test.false)

@@ -6,7 +6,7 @@ pub returns-then-not-is-digit : goal.returns-then-not-is-digit
 returns-then-not-is-digit c = sym (digits_stop c.args.word.now c.loop-b.b-index c.loop-b-test.true c.if-not-is-digit.ensures) ∙ c.loop-b.invariant
 
 pub loop-b-preserved : goal.loop-b-preserved
-loop-b-preserved c = sym (digits_more c.args.word.now c.loop-b.b-index c.loop-b-test.true c.if-not-is-digit.ensures) ∙ c.loop-b.invariant
+loop-b-preserved c = sym (digits_more c.args.word.now c.loop-b.b-index c.loop-b-test.true c.if-not-is_digit.ensures) ∙ c.loop-b.invariant
 
 pub returns : goal.returns
 returns c = sym (digits_all c.args.word.now c.loop-b.b-index c.loop-b-test.false) ∙ c.loop-b.invariant

@@ -10,7 +10,7 @@ returns-then-eq c =
     let ns = c.args.names.now in
     let w = c.args.word.now in
     let i = c.loop-name.name-index in
-    let same = spelled_test w c.as-bytes.result.now (get_or ns i (kind Theory)) c.eq.result (slice_eq-Decides w c.as-bytes.result.now c.eq.result c.eq.ensures) (c.as-bytes.ensures.value ∙ c.text.ensures) in
+    let same = spelled_test w c.as_bytes.result.now (get_or ns i (kind Theory)) c.eq.result (slice_eq-Decides w c.as_bytes.result.now c.eq.result c.eq.ensures) (c.as_bytes.ensures.value ∙ c.text.ensures) in
     sym (spelled_here ns w i (kind Theory) c.loop-name-test.true (same ∙ c.if-eq.true)) ∙ c.loop-name.invariant
 
 pub loop-name-preserved : goal.loop-name-preserved
@@ -18,7 +18,7 @@ loop-name-preserved c =
     let ns = c.args.names.now in
     let w = c.args.word.now in
     let i = c.loop-name.name-index in
-    let same = spelled_test w c.as-bytes.result.now (get_or ns i (kind Theory)) c.eq.result (slice_eq-Decides w c.as-bytes.result.now c.eq.result c.eq.ensures) (c.as-bytes.ensures.value ∙ c.text.ensures) in
+    let same = spelled_test w c.as_bytes.result.now (get_or ns i (kind Theory)) c.eq.result (slice_eq-Decides w c.as_bytes.result.now c.eq.result c.eq.ensures) (c.as_bytes.ensures.value ∙ c.text.ensures) in
     sym (spelled_more ns w i (kind Theory) c.loop-name-test.true (same ∙ c.if-eq.false)) ∙ c.loop-name.invariant
 
 pub returns : goal.returns

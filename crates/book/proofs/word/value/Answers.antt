@@ -21,8 +21,8 @@ pub loop-b-preserved : goal.loop-b-preserved
 loop-b-preserved c =
     let w = c.args.word.now in
     let i = c.loop-b.b-index in
-    let e : c.in-ok-n.n ≡ c.loop-b.n * 10 + (get_or w i 0 - 48) = omega (arith, c.in-ok-n.ensures, c.in-ok-tens.ensures, c.from.ensures, c.saturating-sub.ensures) in
-    (ap (λ n. value_after n (drop (i + 1) w)) e ∙ sym (value_more c.loop-b.n w i c.loop-b-test.true) ∙ c.loop-b.invariant.0, omega (arith, c.in-ok-n.ensures))
+    let e : c.in_ok-n.n ≡ c.loop-b.n * 10 + (get_or w i 0 - 48) = omega (arith, c.in_ok-n.ensures, c.in_ok-tens.ensures, c.from.ensures, c.saturating_sub.ensures) in
+    (ap (λ n. value_after n (drop (i + 1) w)) e ∙ sym (value_more c.loop-b.n w i c.loop-b-test.true) ∙ c.loop-b.invariant.0, omega (arith, c.in_ok-n.ensures))
 
 pub returns : goal.returns
 returns c =

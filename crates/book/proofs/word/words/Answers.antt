@@ -4,7 +4,7 @@ use Rattle.book.specs.declared.scan.Mark.TheVariants.{Blank}
 use Rattle.book.specs.Words.{words_among}
 use Rattle.book.proofs.Cuts.{after_less, words_none, words_put, words_keep}
 use Rattle.book.proofs.word.words.Goals as goal
-use Rattle.book.proofs.word.words.Goals.{then-not-is-empty+in-ok-push, else-not-is-empty}
+use Rattle.book.proofs.word.words.Goals.{then-not-is_empty+in_ok-push, else-not-is_empty}
 
 pub loop-rest-smaller : goal.loop-rest-smaller
 loop-rest-smaller c =
@@ -14,12 +14,12 @@ loop-rest-smaller c =
 pub loop-rest-preserved : goal.loop-rest-preserved
 loop-rest-preserved c =
     let some : 0 < length c.loop-rest.rest.now = omega (arith, false-eqb _ 0 c.loop-rest-test.ensures) in
-    elim c.if-not-is-empty.branch [
-      | then-not-is-empty+in-ok-push w ↦
+    elim c.if-not-is_empty.branch [
+      | then-not-is_empty+in_ok-push w ↦
           ap (λ v. vec_items v ++ words_among c.after-rest.result.now) w.found-is
           ∙ words_put (vec_items c.loop-rest.found) c.loop-rest.rest.now c.after-rest.result.now some c.after-rest.ensures (vec_items w.push.new.self) w.word-of.result c.before-piece.result.now c.before-piece.ensures (omega (arith, false-eqb _ 0 w.if-not-is-empty.ensures)) w.word-of.ensures w.in-ok-push.ensures.items
           ∙ c.loop-rest.invariant
-      | else-not-is-empty w ↦
+      | else-not-is_empty w ↦
           ap (λ v. vec_items v ++ words_among c.after-rest.result.now) w.found-is
           ∙ words_keep (vec_items c.loop-rest.found) c.loop-rest.rest.now c.after-rest.result.now some c.after-rest.ensures c.before-piece.result.now c.before-piece.ensures (omega (arith, true-eqb _ 0 w.if-not-is-empty.ensures))
           ∙ c.loop-rest.invariant

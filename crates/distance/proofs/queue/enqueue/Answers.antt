@@ -20,7 +20,7 @@ loop-link-init c = (
 -- what was found of the bound at the link
 tested : (c : goal.After-excess) → lt_z (pos 0) (to_z w64 (of_z w64 c.excess.result)) ≡ breaks c.args.row.now c.args.bounds.now (c.loop-link.link - 1)
 tested c =
-    let v : to_z w64 (of_z w64 c.excess.result) ≡ c.excess.result = omega (arith, ints, c.excess.type-inv) in
+    let v : to_z w64 (of_z w64 c.excess.result) ≡ c.excess.result = omega (arith, ints, c.excess.ok) in
     ap (lt_z (pos 0)) (v ∙ c.excess.ensures ∙ ap (λ q. excess c.args.row.now (at c.args.bounds.now q)) c.from-q.ensures)
 
 pub push-reserved-requires : goal.push-reserved-requires

@@ -50,7 +50,7 @@ pub overflow-add-count : goal.overflow-add-count
 overflow-add-count c = omega (arith, c.loop-i.invariant.0.behind, c.loop-i-test.true, c.len-i-end.type-inv)
 
 over-is : (c : goal.After-excess-over) → to_z w64 (of_z w64 c.excess-over.result) ≡ excess c.args.row.now (at c.args.bounds.now c.index-q.result.now)
-over-is c = let v : to_z w64 (of_z w64 c.excess-over.result) ≡ c.excess-over.result = omega (arith, ints, c.excess-over.type-inv) in v ∙ c.excess-over.ensures
+over-is c = let v : to_z w64 (of_z w64 c.excess-over.result) ≡ c.excess-over.result = omega (arith, ints, c.excess-over.ok) in v ∙ c.excess-over.ensures
 
 pub loop-i-preserved : goal.loop-i-preserved
 loop-i-preserved c =

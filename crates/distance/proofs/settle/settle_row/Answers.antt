@@ -23,7 +23,7 @@ loop-left-init c =
     let t : Turning bs c.args.last row row [] 0 (length row + 1) =
     turn_start bs c.args.last row (front_inside (length row) bs row c.requires.few.1.1 c.requires.few.0 c.requires.few.1.0 c.requires.named c.requires.small c.requires.before) in
     let r : Running bs c.args.last row row [] ((length bs - 1) ∷ []) = run_start bs c.args.last row c.requires.few.1.1 c.requires.named c.requires.last c.requires.before in
-    let q : vec_items c.push-reserved.new.self ≡ (length bs - 1) ∷ [] = c.push-reserved.ensures.items ∙ ap (λ z. z ++ (length bs - 1) ∷ []) c.clear-2.ensures.items in
+    let q : vec_items c.push_reserved.new.self ≡ (length bs - 1) ∷ [] = c.push_reserved.ensures.items ∙ ap (λ z. z ++ (length bs - 1) ∷ []) c.clear-2.ensures.items in
     (simp (c.clear.ensures.items, c.clear.ensures.len) t, simp (c.clear.ensures.items, q) r, refl, refl)
 
 pub pick-p-requires : goal.pick-p-requires
@@ -39,7 +39,7 @@ pick-p-requires c = record {
 capacities : (c : goal.After-pick-p) → (vec_capacity c.loop-left.steps ≡ vec_capacity c.args.steps.now) × (vec_capacity c.pick-p.new.queue ≡ vec_capacity c.args.queue.now)
 capacities c = (
   c.loop-left.invariant.2 ∙ c.clear.ensures.capacity,
-  c.pick-p.ensures.capacity ∙ c.loop-left.invariant.3 ∙ c.push-reserved.ensures.capacity ∙ c.clear-2.ensures.capacity,
+  c.pick-p.ensures.capacity ∙ c.loop-left.invariant.3 ∙ c.push_reserved.ensures.capacity ∙ c.clear-2.ensures.capacity,
 )
 
 far_is : (c : goal.Else-far-le0) → pos 0 <ℤ (worst c.loop-left.row c.args.bounds.now).1
@@ -137,7 +137,7 @@ fits-room c =
 
 -- what is written is the bound's limit
 written : (c : goal.After-limit-low) → to_z w64 (of_z w64 c.limit-low.result) ≡ limit c.loop-left.row (at c.args.bounds.now c.pick-p.result.0)
-written c = omega (arith, ints, c.limit-low.ensures, c.limit-low.type-inv)
+written c = omega (arith, ints, c.limit-low.ensures, c.limit-low.ok)
 
 pub enqueue-requires : goal.enqueue-requires
 enqueue-requires c =
@@ -179,5 +179,5 @@ returns c = record {
   settles = turn_end c.args.bounds.now c.args.last c.args.row.now c.loop-left.row (vec_items c.loop-left.steps) (vec_len c.loop-left.steps) c.loop-left.left c.loop-left.invariant.0 (omega (arith, c.loop-left-test.false));
   within = tt;
   positions = c.loop-left.invariant.0.positions;
-  capacity = (c.loop-left.invariant.2 ∙ c.clear.ensures.capacity, c.loop-left.invariant.3 ∙ c.push-reserved.ensures.capacity ∙ c.clear-2.ensures.capacity);
+  capacity = (c.loop-left.invariant.2 ∙ c.clear.ensures.capacity, c.loop-left.invariant.3 ∙ c.push_reserved.ensures.capacity ∙ c.clear-2.ensures.capacity);
 }

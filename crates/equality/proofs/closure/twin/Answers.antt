@@ -6,7 +6,7 @@ use Rattle.equality.specs.Logs.{cell}
 use Rattle.equality.proofs.Nearest.{Near, nearest_is}
 use Rattle.equality.proofs.Twins.{walk_start, walk_head, walk_hit, walk_same, walk_other, walk_end}
 use Rattle.equality.proofs.closure.twin.Goals as goal
-use Rattle.equality.proofs.closure.twin.Goals.{else-label-via-then-label+else-same-arguments, else-label-via-else-label}
+use Rattle.equality.proofs.closure.twin.Goals.{else-label-via-then-label+else-same_arguments, else-label-via-else-label}
 
 -- what the index told is the nearest term
 near_at : (ts : List Term) (u v : ℕ) → v ≡ nearest ts u → Near ts u v
@@ -40,9 +40,9 @@ loop-v-preserved c =
     let i = c.loop-v.invariant in
     let n = near_at ts c.loop-v.u c.loop-v.v i.1 in (
       elim c.else-label.branch [
-        | else-label-via-then-label+else-same-arguments w ↦
+        | else-label-via-then-label+else-same_arguments w ↦
             walk_other ts num c.args.t c.loop-v.u c.loop-v.v i.0 n c.loop-v-test.true
-            (λ x. true≢false (sym (w.same-arguments.ensures.1 x) ∙ w.if-same-arguments.false))
+            (λ x. true≢false (sym (w.same_arguments.ensures.1 x) ∙ w.if-same_arguments.false))
         | else-label-via-else-label w ↦
             walk_same ts num c.args.t c.loop-v.u c.loop-v.v i.0 n c.loop-v-test.true
             (sym c.label.ensures ∙ w.if-label.false ∙ c.label-in-loop-v.ensures)

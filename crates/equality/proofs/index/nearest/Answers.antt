@@ -11,7 +11,7 @@ pub loop-u-preserved : goal.loop-u-preserved
 loop-u-preserved c = (
   omega arith,
   c.loop-u.invariant.1 ∙ nearest_past c.args.terms.now.records.now c.args.t c.loop-u.u c.loop-u-test.true
-      (sym c.same-head.ensures ∙ c.if-same-head.false),
+      (sym c.same_head.ensures ∙ c.if-same_head.false),
 )
 
 pub returns : goal.returns

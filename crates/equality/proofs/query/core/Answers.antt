@@ -37,7 +37,7 @@ returns c =
     let ls = c.args.list.now in
     let d = c.args.d in
     let q = pair_of c.args.claims.now (get_or ls d 0) in
-    let g = c.core-of.ensures in
+    let g = c.core_of.ensures in
     record {
       clear = g.clear;
       told = g.told ∙ ap (λ (l : List Step). length (listed 0 (length ls) (λ p. eqb d p || needed ts l p q.left q.right))) c.requires.log;

@@ -26,11 +26,11 @@ returns c =
     let ts = c.args.terms.now.records.now in
     let ss = c.args.steps.now in
     let test : ℕ → Bool = λ p. needed ts (until ss c.args.count) p c.args.t c.args.u in
-    let e : listed 0 c.args.len (λ p. eqb c.args.d p || get_or c.cite-all.new.cited p false) ≡ listed 0 c.args.len (λ p. eqb c.args.d p || test p) =
-    cited_listed c.cite-all.new.cited c.args.d c.args.len test (omega (arith, c.requires.short, c.cite-all.auto.cited))
-    (λ p h. c.cite-all.ensures p (omega (arith, h, c.cite-all.auto.cited)) ∙ covers_test ts ss c.args.table.now c.explain.new.marks test p c.requires.long.0 c.requires.clear c.explain.ensures) in
+    let e : listed 0 c.args.len (λ p. eqb c.args.d p || get_or c.cite_all.new.cited p false) ≡ listed 0 c.args.len (λ p. eqb c.args.d p || test p) =
+    cited_listed c.cite_all.new.cited c.args.d c.args.len test (omega (arith, c.requires.short, c.cite_all.auto.cited))
+    (λ p h. c.cite_all.ensures p (omega (arith, h, c.cite_all.auto.cited)) ∙ covers_test ts ss c.args.table.now c.explain.new.marks test p c.requires.long.0 c.requires.clear c.explain.ensures) in
     record {
       clear = search rules;
-      told = c.write-core.ensures.told ∙ ap length e;
-      place = c.write-core.ensures.place ∙ ap (λ (l : List ℕ). over l c.args.place.now) e;
+      told = c.write_core.ensures.told ∙ ap length e;
+      place = c.write_core.ensures.place ∙ ap (λ (l : List ℕ). over l c.args.place.now) e;
     }

@@ -8,7 +8,7 @@ use Rattle.distance.proofs.index.Index.leave.Goals as goal
 pub returns : goal.returns
 returns c =
     let s = c.args.self.now in
-    let long : length c.unlink.new.heads ≡ s.heads.len = c.unlink.auto.heads ∙ c.deref-mut.ensures.len in
+    let long : length c.unlink.new.heads ≡ s.heads.len = c.unlink.auto.heads ∙ c.deref_mut.ensures.len in
     let same : (with_items s.heads c.unlink.new.heads).items ≡ c.unlink.new.heads = with_items_is s.heads c.unlink.new.heads long in
     record {
       index = indexed_cut c.args.bounds.now c.args.k s (record { heads = with_items s.heads c.unlink.new.heads; nexts = s.nexts }) c.requires.index c.requires.within

@@ -5,8 +5,8 @@ use Rattle.distance.proofs.index.Index.new.Goals as goal
 
 pub returns : goal.returns
 returns c =
-    let zeros : vec_items c.in-ok-heads.heads ≡ replicate c.args.terms 0 = c.in-ok-heads.ensures.items-if-clones-equal (λ y e. search rules) in (
-      indexed_none (record { heads = c.in-ok-heads.heads; nexts = c.in-ok-nexts.nexts }) c.args.terms zeros,
+    let zeros : vec_items c.in_ok-heads.heads ≡ replicate c.args.terms 0 = c.in_ok-heads.ensures.items_if_clones_equal (λ y e. search rules) in (
+      indexed_none (record { heads = c.in_ok-heads.heads; nexts = c.in_ok-nexts.nexts }) c.args.terms zeros,
       ap length zeros ∙ length-replicate {A = ℕ} c.args.terms 0,
-      sym c.in-ok-nexts.nexts.ok.0 ∙ c.in-ok-nexts.ensures.len,
+      sym c.in_ok-nexts.nexts.ok.0 ∙ c.in_ok-nexts.ensures.len,
     )

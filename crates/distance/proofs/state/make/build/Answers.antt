@@ -7,9 +7,9 @@ returns c =
     let s = c.requires in (
       s,
       record {
-        terms_are = c.in-ok-table.ensures.1;
+        terms_are = c.in_ok-table.ensures.1;
         claims_are = refl;
-        nothing = c.in-ok-list.ensures.items;
+        nothing = c.in_ok-list.ensures.items;
         stands = stands (length c.args.terms.now) c.args.claims.now s.limits.few_terms s.limits.few_claims s.named;
       },
     )

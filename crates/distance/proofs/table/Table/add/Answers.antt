@@ -41,26 +41,26 @@ extend-requires c =
     }
 
 -- the table with the bound, whether it is possible or not
-extended : (c : goal.After-extend) → Held c.args.self.now.terms c.args.self.now.most (vec_items c.push-reserved.new.self) (with_items c.args.self.now.rows c.extend.new.rows).items (reach c.args.self.now.good c.extend.result) (with_items c.args.self.now.marks c.extend.new.marks).items
+extended : (c : goal.After-extend) → Held c.args.self.now.terms c.args.self.now.most (vec_items c.push_reserved.new.self) (with_items c.args.self.now.rows c.extend.new.rows).items (reach c.args.self.now.good c.extend.result) (with_items c.args.self.now.marks c.extend.new.marks).items
 extended c =
     let s = c.args.self.now in
     let good = reach s.good c.extend.result in
     let all : s.good ≡ length (vec_items s.bounds) = c.if-possible.true ∙ c.len.ensures ∙ s.bounds.ok.0 in
-    let rows_long : length c.extend.new.rows ≡ s.rows.len = c.extend.auto.rows ∙ c.deref-mut.ensures.len in
-    let marks_long : length c.extend.new.marks ≡ s.marks.len = c.extend.auto.marks ∙ c.deref-mut-then-possible-2.ensures.len in
+    let rows_long : length c.extend.new.rows ≡ s.rows.len = c.extend.auto.rows ∙ c.deref_mut.ensures.len in
+    let marks_long : length c.extend.new.marks ≡ s.marks.len = c.extend.auto.marks ∙ c.deref_mut-then-possible-2.ensures.len in
     let t = held_grown s.terms s.most (vec_items s.bounds) (vec_items s.rows) s.good (vec_items s.marks) c.args.b (held s) (omega (arith, c.requires.room, s.bounds.ok.0)) c.requires.named c.requires.small
-    all c.deref-then-possible.result.now (length c.deref-mut-then-possible.result.now) c.deref-mut.result.now c.deref-mut-then-possible-2.result.now c.extend.result c.extend.new.rows c.extend.new.marks
+    all c.deref-then-possible.result.now (length c.deref-mut-then-possible.result.now) c.deref_mut.result.now c.deref_mut-then-possible-2.result.now c.extend.result c.extend.new.rows c.extend.new.marks
     (record {
-      bounds_are = c.deref-then-possible.ensures.value ∙ c.push-reserved.ensures.items;
+      bounds_are = c.deref-then-possible.ensures.value ∙ c.push_reserved.ensures.items;
       terms_are = ap length c.deref-mut-then-possible.ensures.value ∙ s.room.2;
-      rows_were = c.deref-mut.ensures.value;
-      marks_were = c.deref-mut-then-possible-2.ensures.value;
+      rows_were = c.deref_mut.ensures.value;
+      marks_were = c.deref_mut-then-possible-2.ensures.value;
       answer = c.extend.ensures.answer;
       kept = c.extend.ensures.kept;
       long = c.extend.auto.rows;
       long_marks = c.extend.auto.marks;
     }) in
-    subst (λ z. Held s.terms s.most z (with_items s.rows c.extend.new.rows).items good (with_items s.marks c.extend.new.marks).items) (sym c.push-reserved.ensures.items)
+    subst (λ z. Held s.terms s.most z (with_items s.rows c.extend.new.rows).items good (with_items s.marks c.extend.new.marks).items) (sym c.push_reserved.ensures.items)
     (subst (λ z. Held s.terms s.most (vec_items s.bounds ++ c.args.b ∷ []) z good (with_items s.marks c.extend.new.marks).items) (sym (with_items_is s.rows c.extend.new.rows rows_long))
     (subst (λ z. Held s.terms s.most (vec_items s.bounds ++ c.args.b ∷ []) c.extend.new.rows good z) (sym (with_items_is s.marks c.extend.new.marks marks_long)) t))
 

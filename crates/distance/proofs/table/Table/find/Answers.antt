@@ -20,6 +20,6 @@ returns c =
     let o = not_possible s.terms s.most (vec_items s.bounds) (vec_items s.rows) s.good (vec_items s.marks) (held s) some in
     let ms = c.deref.ensures.value in
     record {
-      says = ap Impossible (c.list-marks.ensures.told ∙ ap (λ (z : List Bool). length (marked (s.good + 1) z)) ms) ∙ sym (ap (λ (z : Outcome). told (answer_of z)) o);
-      place = c.list-marks.ensures.place ∙ ap (λ (z : List Bool). over (marked (s.good + 1) z) c.args.place.now) ms ∙ sym (ap (λ (z : Outcome). core_over (answer_of z) c.args.place.now) o);
+      says = ap Impossible (c.list_marks.ensures.told ∙ ap (λ (z : List Bool). length (marked (s.good + 1) z)) ms) ∙ sym (ap (λ (z : Outcome). told (answer_of z)) o);
+      place = c.list_marks.ensures.place ∙ ap (λ (z : List Bool). over (marked (s.good + 1) z) c.args.place.now) ms ∙ sym (ap (λ (z : Outcome). core_over (answer_of z) c.args.place.now) o);
     }

@@ -27,9 +27,9 @@ returns c =
     let all : s.good ≡ length (vec_items s.bounds) = omega (arith, c.if-self-len.false, c.len.ensures, s.bounds.ok.0, s.lengths.0) in
     let o = all_possible s.terms s.most (vec_items s.bounds) (vec_items s.rows) s.good (vec_items s.marks) (held s) all in
     let row : List ℤ = part s.terms s.good (vec_items s.rows) in
-    let copied : c.copy-from-slice.new.self ≡ row =
-    c.copy-from-slice.ensures.after ∙ part_copied s.terms (s.good * s.terms) c.deref.result.now ∙ ap (λ z. part s.terms s.good z) c.deref.ensures.value in
-    let z : s.terms - 0 ≡ length row = omega (arith, ap length copied, c.copy-from-slice.ensures.len) in
+    let copied : c.copy_from_slice.new.self ≡ row =
+    c.copy_from_slice.ensures.after ∙ part_copied s.terms (s.good * s.terms) c.deref.result.now ∙ ap (λ z. part s.terms s.good z) c.deref.ensures.value in
+    let z : s.terms - 0 ≡ length row = omega (arith, ap length copied, c.copy_from_slice.ensures.len) in
     record {
       says = sym (ap (λ (z : Outcome). fit_says (answer_of z)) o);
       place = ap (λ l. l ++ drop (s.terms - 0) c.args.place.now) copied ∙ ap (λ k. row ++ drop k c.args.place.now) z

@@ -13,12 +13,12 @@ overflow-cast-result c =
 pub returns : goal.returns
 returns c =
     let ts = c.args.terms.now.records.now in
-    let v = c.in-ok-steps.steps in
-    let u = c.in-ok-rows.rows in
+    let v = c.in_ok-steps.steps in
+    let u = c.in_ok-rows.rows in
     let ss = c.settle-count.new.steps in
     let rows = c.settle-count.new.rows in
     let n = c.settle-count.result in
     let g = c.settle-count.ensures in
-    subst (λ (x : List ℕ). Closed ts (with_items v ss).items n x) (sym (with_items_is u rows (c.settle-count.auto.rows ∙ c.deref-mut-2.ensures.len)))
+    subst (λ (x : List ℕ). Closed ts (with_items v ss).items n x) (sym (with_items_is u rows (c.settle-count.auto.rows ∙ c.deref_mut-2.ensures.len)))
     (subst (λ (x : List Step). Closed ts x n rows) (sym (with_items_is v ss (c.settle-count.auto.steps ∙ c.deref-mut.ensures.len)))
     (record { log_is = g.log_is; ready = g.ready }))

@@ -4,7 +4,7 @@ use Rattle.equality.proofs.state.make.first_rows.Goals as goal
 
 pub returns : goal.returns
 returns c =
-    let v = c.in-ok-rows.rows in
-    let rows = c.label-all.new.rows in
-    let is = with_items_is v rows (c.label-all.auto.rows ∙ c.deref-mut.ensures.len) in
-    (c.in-ok-rows.ensures.len, λ t h. ap (λ (xs : List ℕ). get_or xs t 0) is ∙ c.label-all.ensures t h)
+    let v = c.in_ok-rows.rows in
+    let rows = c.label_all.new.rows in
+    let is = with_items_is v rows (c.label_all.auto.rows ∙ c.deref_mut.ensures.len) in
+    (c.in_ok-rows.ensures.len, λ t h. ap (λ (xs : List ℕ). get_or xs t 0) is ∙ c.label_all.ensures t h)

@@ -8,17 +8,17 @@ use Rattle.difference.specs.Depth.{Small}
 use Rattle.difference.specs.Distance.{bound_of, said}
 use Rattle.difference.proofs.Law.{bound_named, bound_small}
 use Rattle.distance.proofs.state.calls.DistanceTheory.assert.Goals as goal
-use Rattle.distance.proofs.state.calls.DistanceTheory.assert.Goals.{After-bound-of}
+use Rattle.distance.proofs.state.calls.DistanceTheory.assert.Goals.{After-bound_of}
 
 -- the list with the literal
-longer : (c : goal.After-bound-of) → Proper (length c.args.self.now.claims.now) (vec_items c.args.self.now.list ++ c.args.l ∷ [])
+longer : (c : goal.After-bound_of) → Proper (length c.args.self.now.claims.now) (vec_items c.args.self.now.list ++ c.args.l ∷ [])
 longer c =
     let s = c.args.self.now in
     let new : names (vec_items s.list) c.args.l ≡ false = ap (λ (x : List ℕ). names x c.args.l) (sym c.deref.ensures.value) ∙ sym c.names.ensures ∙ c.if-names.false in
     proper_push (length s.claims.now) (vec_items s.list) c.args.l (record { below = s.below; apart_claims = s.distinct }) c.if-l-self.false new
 
 -- so there is room for one more
-room : (c : goal.After-bound-of) → length (vec_items c.args.self.now.list) < length c.args.self.now.claims.now
+room : (c : goal.After-bound_of) → length (vec_items c.args.self.now.list) < length c.args.self.now.claims.now
 room c =
     let s = c.args.self.now in
     omega (arith, proper_few (length s.claims.now) (vec_items s.list ++ c.args.l ∷ []) (longer c), length_push (vec_items s.list) c.args.l)
@@ -27,10 +27,10 @@ pub add-requires : goal.add-requires
 add-requires c =
     let s = c.args.self.now in
     let claims = s.claims.now in
-    let d = (goal.at.add-requires c).After-bound-of in
+    let d = (goal.at.add-requires c).After-bound_of in
     record {
-      named = subst (λ (b : Bound). (b.term < s.table.terms) × (b.base < s.table.terms)) (sym c.bound-of.ensures) (bound_named s.table.terms claims s.named c.args.l c.if-l-self.false);
-      small = subst Small (sym c.bound-of.ensures) (bound_small claims s.range c.args.l c.if-l-self.false);
+      named = subst (λ (b : Bound). (b.term < s.table.terms) × (b.base < s.table.terms)) (sym c.bound_of.ensures) (bound_named s.table.terms claims s.named c.args.l c.if-l-self.false);
+      small = subst Small (sym c.bound_of.ensures) (bound_small claims s.range c.args.l c.if-l-self.false);
       room = omega (arith, room d, s.most, s.table.bounds.ok.0, ap length s.says, length-map (vec_items s.list) (bound_of claims));
     }
 

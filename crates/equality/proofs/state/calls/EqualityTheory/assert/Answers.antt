@@ -38,9 +38,9 @@ absorb-count-requires c =
     let h = held s in
     let low : c.args.l < 2 * length s.claims.now = c.if-l-self.false in
     let known : claim c.args.l < length s.claims.now = omega arith in
-    let r : Ready ts c.deref-mut.result.now c.index.result.now c.deref-mut-2.result.now =
-    subst (λ (x : List ℕ). Ready ts c.deref-mut.result.now c.index.result.now x) (sym c.deref-mut-2.ensures.value)
-    (subst (λ (x : List Step). Ready ts x c.index.result.now (vec_items s.rows)) (sym c.deref-mut.ensures.value)
+    let r : Ready ts c.deref_mut.result.now c.index.result.now c.deref_mut-2.result.now =
+    subst (λ (x : List ℕ). Ready ts c.deref_mut.result.now c.index.result.now x) (sym c.deref_mut-2.ensures.value)
+    (subst (λ (x : List Step). Ready ts x c.index.result.now (vec_items s.rows)) (sym c.deref_mut.ensures.value)
     (subst (λ (n : ℕ). Ready ts (vec_items s.steps) n (vec_items s.rows)) (sym (from_is s c.index.result.now c.index.ensures))
     (held_ready ts s.claims.now (vec_items s.list) s.len (vec_items s.merges) (vec_items s.steps) (vec_items s.rows) h))) in
     record {
@@ -153,6 +153,6 @@ returns c =
     record {
       shape = refl;
       says = w.0;
-      list = front s c.args.l c.index.result.now c.absorb-count.result c.deref.result.now c.deref-mut.result.now c.absorb-count.new.steps c.absorb-count.new.rows
-          c.deref-mut.ensures.value c.index.ensures c.if-l-self.false c.deref.ensures.value hn c.absorb-count.ensures ∙ w.1;
+      list = front s c.args.l c.index.result.now c.absorb-count.result c.deref.result.now c.deref_mut.result.now c.absorb-count.new.steps c.absorb-count.new.rows
+          c.deref_mut.ensures.value c.index.ensures c.if-l-self.false c.deref.ensures.value hn c.absorb-count.ensures ∙ w.1;
     }

@@ -20,8 +20,8 @@ core-n-requires c =
       formed = w.formed;
       tabled = w.tabled;
       log = w.log;
-      long = (w.steps_long, (c.deref-mut.ensures.len ∙ s.marks_long, w.rows_long));
-      clear = λ k. ap (λ (xs : List Bool). get_or xs k false) c.deref-mut.ensures.value ∙ s.clear k;
+      long = (w.steps_long, (c.deref_mut.ensures.len ∙ s.marks_long, w.rows_long));
+      clear = λ k. ap (λ (xs : List Bool). get_or xs k false) c.deref_mut.ensures.value ∙ s.clear k;
       clash = sym c.in-Some.is ∙ c.clash.ensures;
       within = omega (arith, w.few, c.if-place-self.false);
     }

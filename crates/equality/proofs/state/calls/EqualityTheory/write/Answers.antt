@@ -43,7 +43,7 @@ returns-in-None c =
       shape = refl;
       list = refl;
       says = done.0;
-      place = c.write-labels.ensures
+      place = c.write_labels.ensures
           ∙ ap (λ (l : List ℤ). over l c.args.place.now) (row_same 0 (length ts) (λ t. pos (cell rows n t)) (λ t. pos (label (log_of ts claims ls) t)) (λ t a b.
           ap pos (w.tabled n t (omega arith) (omega arith) ∙ ap (λ (l : List Step). label l t) w.log ∙ ap (λ (x : List ℕ). label (log_of ts claims x) t) front)))
           ∙ done.1;
