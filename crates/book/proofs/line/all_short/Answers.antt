@@ -5,10 +5,10 @@ use Rattle.book.specs.declared.word.Word.TheVariants.{Known}
 use Rattle.book.proofs.Shorts.{exit, checked_more, checked_stop, checked_all}
 use Rattle.book.proofs.line.all_short.Goals as goal
 
-pub returns-in-err-short : goal.returns-in-err-short
-returns-in-err-short c =
-    exit c.from-residual.result c.in-err-short.field-0.0 c.from-residual.ensures.1
-    ∙ sym (checked_stop c.args.words.now c.loop-word.word-index (Known (kind Theory)) c.in-err-short.field-0.0 c.loop-word-test.true c.in-err-short.ensures)
+pub returns-in_err-short : goal.returns-in_err-short
+returns-in_err-short c =
+    exit c.from_residual.result c.in_err-short.field-0.0 c.from_residual.ensures.1
+    ∙ sym (checked_stop c.args.words.now c.loop-word.word-index (Known (kind Theory)) c.in_err-short.field-0.0 c.loop-word-test.true c.in_err-short.ensures)
     ∙ c.loop-word.invariant
 
 pub loop-word-preserved : goal.loop-word-preserved

@@ -19,42 +19,42 @@ rest ws = take (length ws - 2) (drop 2 ws)
 pub returns-in-empty : goal.returns-in-empty
 returns-in-empty c = sym two_none ∙ ap (λ ws. two (shorts_of ws)) (sym (list_none c.args.words.now (omega (arith, ltb-true, ltb-false))))
 
-pub returns-in-err-short : goal.returns-in-err-short
-returns-in-err-short c =
+pub returns-in_err-short-in-len1 : goal.returns-in_err-short-in-len1
+returns-in_err-short-in-len1 c =
     let ws = c.args.words.now in
-    exit c.from-residual.result c.in-err-short.field-0.0 c.from-residual.ensures.1
-    ∙ sym (two_first (head ws) [] c.in-err-short.field-0.0 c.in-err-short.ensures)
+    exit c.from_residual.result c.in_err-short-in-len1.field-0.0 c.from_residual.ensures.1
+    ∙ sym (two_first (head ws) [] c.in_err-short-in-len1.field-0.0 c.in_err-short-in-len1.ensures)
     ∙ ap (λ v. two (shorts_of v)) (sym (list_one ws (Known (kind Theory)) (omega (arith, ltb-true, ltb-false)) (omega (arith, ltb-true, ltb-false))))
 
-pub returns-in-ok-short : goal.returns-in-ok-short
-returns-in-ok-short c =
+pub returns-in_ok-short-in-len1 : goal.returns-in_ok-short-in-len1
+returns-in_ok-short-in-len1 c =
     let ws = c.args.words.now in
-    sym (two_one (head ws) c.in-ok-short.field-0 c.in-ok-short.ensures)
+    sym (two_one (head ws) c.in_ok-short-in-len1.field-0 c.in_ok-short-in-len1.ensures)
     ∙ ap (λ v. two (shorts_of v)) (sym (list_one ws (Known (kind Theory)) (omega (arith, ltb-true, ltb-false)) (omega (arith, ltb-true, ltb-false))))
 
-pub returns-in-err-short-2 : goal.returns-in-err-short-2
-returns-in-err-short-2 c =
+pub returns-in_err-short-in-len2-up : goal.returns-in_err-short-in-len2-up
+returns-in_err-short-in-len2-up c =
     let ws = c.args.words.now in
-    exit c.from-residual-in-err-short-2.result c.in-err-short-2.field-0.0 c.from-residual-in-err-short-2.ensures.1
-    ∙ sym (two_first (head ws) (second ws ∷ rest ws) c.in-err-short-2.field-0.0 c.in-err-short-2.ensures)
+    exit c.from_residual-in_err-short-in-len2-up.result c.in_err-short-in-len2-up.field-0.0 c.from_residual-in_err-short-in-len2-up.ensures.1
+    ∙ sym (two_first (head ws) (second ws ∷ rest ws) c.in_err-short-in-len2-up.field-0.0 c.in_err-short-in-len2-up.ensures)
     ∙ ap (λ v. two (shorts_of v)) (sym (list_two_up ws (Known (kind Theory)) (omega (arith, ltb-true, ltb-false))))
 
-pub returns-in-err-short-3 : goal.returns-in-err-short-3
-returns-in-err-short-3 c =
+pub returns-in_err-short-in-len2-up-2 : goal.returns-in_err-short-in-len2-up-2
+returns-in_err-short-in-len2-up-2 c =
     let ws = c.args.words.now in
-    exit c.from-residual-in-err-short-3.result c.in-err-short-3.field-0.0 c.from-residual-in-err-short-3.ensures.1
-    ∙ sym (two_second (head ws) (second ws) (rest ws) c.in-ok-short-2.field-0 c.in-ok-short-2.ensures c.in-err-short-3.field-0.0 c.in-err-short-3.ensures)
+    exit c.from_residual-in_err-short-in-len2-up-2.result c.in_err-short-in-len2-up-2.field-0.0 c.from_residual-in_err-short-in-len2-up-2.ensures.1
+    ∙ sym (two_second (head ws) (second ws) (rest ws) c.in_ok-short-in-len2-up.field-0 c.in_ok-short-in-len2-up.ensures c.in_err-short-in-len2-up-2.field-0.0 c.in_err-short-in-len2-up-2.ensures)
     ∙ ap (λ v. two (shorts_of v)) (sym (list_two_up ws (Known (kind Theory)) (omega (arith, ltb-true, ltb-false))))
 
-pub returns-in-err-all-short : goal.returns-in-err-all-short
-returns-in-err-all-short c =
+pub returns-in_err-all_short-in-len2-up : goal.returns-in_err-all_short-in-len2-up
+returns-in_err-all_short-in-len2-up c =
     let ws = c.args.words.now in
-    exit c.from-residual-in-err-all-short.result c.in-err-all-short.field-0.0 c.from-residual-in-err-all-short.ensures.1
-    ∙ sym (two_rest (head ws) (second ws) (rest ws) c.in-ok-short-2.field-0 c.in-ok-short-2.ensures c.in-ok-short-3.field-0 c.in-err-all-short.field-0.0 c.in-ok-short-3.ensures c.in-err-all-short.ensures)
+    exit c.from_residual-in_err-all_short-in-len2-up.result c.in_err-all_short-in-len2-up.field-0.0 c.from_residual-in_err-all_short-in-len2-up.ensures.1
+    ∙ sym (two_rest (head ws) (second ws) (rest ws) c.in_ok-short-in-len2-up.field-0 c.in_ok-short-in-len2-up.ensures c.in_ok-short-in-len2-up-2.field-0 c.in_err-all_short-in-len2-up.field-0.0 c.in_ok-short-in-len2-up-2.ensures c.in_err-all_short-in-len2-up.ensures)
     ∙ ap (λ v. two (shorts_of v)) (sym (list_two_up ws (Known (kind Theory)) (omega (arith, ltb-true, ltb-false))))
 
-pub returns-in-ok-all-short : goal.returns-in-ok-all-short
-returns-in-ok-all-short c =
+pub returns-in_ok-all_short-in-len2-up : goal.returns-in_ok-all_short-in-len2-up
+returns-in_ok-all_short-in-len2-up c =
     let ws = c.args.words.now in
-    sym (two_all (head ws) (second ws) (rest ws) c.in-ok-short-2.field-0 c.in-ok-short-2.ensures c.in-ok-short-3.field-0 c.in-ok-all-short.field-0 c.in-ok-short-3.ensures c.in-ok-all-short.ensures)
+    sym (two_all (head ws) (second ws) (rest ws) c.in_ok-short-in-len2-up.field-0 c.in_ok-short-in-len2-up.ensures c.in_ok-short-in-len2-up-2.field-0 c.in_ok-all_short-in-len2-up.field-0 c.in_ok-short-in-len2-up-2.ensures c.in_ok-all_short-in-len2-up.ensures)
     ∙ ap (λ v. two (shorts_of v)) (sym (list_two_up ws (Known (kind Theory)) (omega (arith, ltb-true, ltb-false))))

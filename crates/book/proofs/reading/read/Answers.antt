@@ -28,14 +28,14 @@ loop-rest-preserved c =
       omega (arith, c.loop-rest.invariant.1, ap length c.after-rest.ensures, less),
     )
 
-pub returns-in-err-stage : goal.returns-in-err-stage
-returns-in-err-stage c =
+pub returns-in_err-stage : goal.returns-in_err-stage
+returns-in_err-stage c =
     let rest = c.loop-rest.rest.now in
     let n = c.loop-rest.line in
     let s = c.loop-rest.stage in
     let b = contents_of c.loop-rest.book in
     let some : 0 < length rest = omega (arith, false-eqb _ 0 c.loop-rest-test.ensures) in
-    tells_on _ _ _ c.in-err-stage.field-0.0 (λ t. (t, contents_of c.read-line.new.book)) (turn (n + 1) s b c.before-in-loop-rest.result.now) c.from-residual.ensures.1 c.in-err-stage.ensures
+    tells_on _ _ _ c.in_err-stage.field-0.0 (λ t. (t, contents_of c.read_line.new.book)) (turn (n + 1) s b c.before-in-loop-rest.result.now) c.from_residual.ensures.1 c.in_err-stage.ensures
     (λ e h. sym c.loop-rest.invariant.0 ∙ ap (reads n s b) (first_piece Newline rest some) ∙ reads_stop n s b (before Newline rest) (pieces Newline (after Newline rest)) e (ap (turn (n + 1) s b) (sym c.before-in-loop-rest.ensures) ∙ h))
 
 pub returns-in-Start : goal.returns-in-Start
@@ -45,9 +45,9 @@ returns-in-Start c =
     let b = contents_of c.loop-rest.book in
     sym c.loop-rest.invariant.0 ∙ ap (reads n s b) (pieces_none Newline c.loop-rest.rest.now (omega (arith, true-eqb _ 0 c.loop-rest-test.ensures))) ∙ reads_nil n s b ∙ ap (λ t. ended n t b) c.in-Start.is ∙ ap (λ k. Err (record { line = k; wrong = NoTheory })) (sym c.max.ensures)
 
-pub returns-in-default : goal.returns-in-default
-returns-in-default c =
+pub returns-in_default : goal.returns-in_default
+returns-in_default c =
     let n = c.loop-rest.line in
     let s = c.loop-rest.stage in
     let b = contents_of c.loop-rest.book in
-    sym c.loop-rest.invariant.0 ∙ ap (reads n s b) (pieces_none Newline c.loop-rest.rest.now (omega (arith, true-eqb _ 0 c.loop-rest-test.ensures))) ∙ reads_nil n s b ∙ ended_whole n s b c.in-default.not-Start
+    sym c.loop-rest.invariant.0 ∙ ap (reads n s b) (pieces_none Newline c.loop-rest.rest.now (omega (arith, true-eqb _ 0 c.loop-rest-test.ensures))) ∙ reads_nil n s b ∙ ended_whole n s b c.in_default.not-Start

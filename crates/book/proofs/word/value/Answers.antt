@@ -3,19 +3,19 @@ use Rattle.book.specs.Words.{value_after, held}
 use Rattle.book.proofs.Numbers.{held_past, held_within, value_more, value_past, value_all}
 use Rattle.book.proofs.word.value.Goals as goal
 
-pub returns-in-err-tens : goal.returns-in-err-tens
-returns-in-err-tens c =
+pub returns-in_err-tens : goal.returns-in_err-tens
+returns-in_err-tens c =
     let w = c.args.word.now in
     let i = c.loop-b.b-index in
-    let big : 2 ^ 64 ≤ c.loop-b.n * 10 = omega (arith, c.in-err-tens.ensures) in
-    c.from-residual.ensures ∙ held_past (value_after 0 w) (omega (arith, c.loop-b.invariant.0, value_past c.loop-b.n w i c.loop-b-test.true (omega arith)))
+    let big : 2 ^ 64 ≤ c.loop-b.n * 10 = omega (arith, c.in_err-tens.ensures) in
+    c.from_residual.ensures ∙ held_past (value_after 0 w) (omega (arith, c.loop-b.invariant.0, value_past c.loop-b.n w i c.loop-b-test.true (omega arith)))
 
-pub returns-in-err-n : goal.returns-in-err-n
-returns-in-err-n c =
+pub returns-in_err-n : goal.returns-in_err-n
+returns-in_err-n c =
     let w = c.args.word.now in
     let i = c.loop-b.b-index in
-    let big : 2 ^ 64 ≤ c.loop-b.n * 10 + (get_or w i 0 - 48) = omega (arith, c.in-err-n.ensures, c.in-ok-tens.ensures, c.from.ensures, c.saturating-sub.ensures) in
-    c.from-residual-in-err-n.ensures ∙ held_past (value_after 0 w) (omega (arith, c.loop-b.invariant.0, value_past c.loop-b.n w i c.loop-b-test.true big))
+    let big : 2 ^ 64 ≤ c.loop-b.n * 10 + (get_or w i 0 - 48) = omega (arith, c.in_err-n.ensures, c.in_ok-tens.ensures, c.from.ensures, c.saturating_sub.ensures) in
+    c.from_residual-in_err-n.ensures ∙ held_past (value_after 0 w) (omega (arith, c.loop-b.invariant.0, value_past c.loop-b.n w i c.loop-b-test.true big))
 
 pub loop-b-preserved : goal.loop-b-preserved
 loop-b-preserved c =

@@ -17,11 +17,11 @@ loop-rest-preserved c =
     elim c.if-not-is_empty.branch [
       | then-not-is_empty+in_ok-push w ↦
           ap (λ v. vec_items v ++ words_among c.after-rest.result.now) w.found-is
-          ∙ words_put (vec_items c.loop-rest.found) c.loop-rest.rest.now c.after-rest.result.now some c.after-rest.ensures (vec_items w.push.new.self) w.word-of.result c.before-piece.result.now c.before-piece.ensures (omega (arith, false-eqb _ 0 w.if-not-is-empty.ensures)) w.word-of.ensures w.in-ok-push.ensures.items
+          ∙ words_put (vec_items c.loop-rest.found) c.loop-rest.rest.now c.after-rest.result.now some c.after-rest.ensures (vec_items w.push.new.self) w.word_of.result c.before-piece.result.now c.before-piece.ensures (omega (arith, false-eqb _ 0 w.if-not-is_empty.ensures)) w.word_of.ensures w.in_ok-push.ensures.items
           ∙ c.loop-rest.invariant
       | else-not-is_empty w ↦
           ap (λ v. vec_items v ++ words_among c.after-rest.result.now) w.found-is
-          ∙ words_keep (vec_items c.loop-rest.found) c.loop-rest.rest.now c.after-rest.result.now some c.after-rest.ensures c.before-piece.result.now c.before-piece.ensures (omega (arith, true-eqb _ 0 w.if-not-is-empty.ensures))
+          ∙ words_keep (vec_items c.loop-rest.found) c.loop-rest.rest.now c.after-rest.result.now some c.after-rest.ensures c.before-piece.result.now c.before-piece.ensures (omega (arith, true-eqb _ 0 w.if-not-is_empty.ensures))
           ∙ c.loop-rest.invariant
     ]
 

@@ -20,12 +20,12 @@ loop-link-init c = (
 -- what was found of the bound at the link
 tested : (c : goal.After-excess) → lt_z (pos 0) (to_z w64 (of_z w64 c.excess.result)) ≡ breaks c.args.row.now c.args.bounds.now (c.loop-link.link - 1)
 tested c =
-    let v : to_z w64 (of_z w64 c.excess.result) ≡ c.excess.result = omega (arith, ints, c.excess.ok) in
+    let v : to_z w64 (of_z w64 c.excess.result) ≡ c.excess.result = omega (arith, ints, c.excess.type_inv) in
     ap (lt_z (pos 0)) (v ∙ c.excess.ensures ∙ ap (λ q. excess c.args.row.now (at c.args.bounds.now q)) c.from-q.ensures)
 
-pub push-reserved-requires : goal.push-reserved-requires
-push-reserved-requires c =
-    let t = sym (tested (goal.at.push-reserved-requires c).After-excess) ∙ c.if-excess-gt0.true in
+pub push_reserved-requires : goal.push_reserved-requires
+push_reserved-requires c =
+    let t = sym (tested (goal.at.push_reserved-requires c).After-excess) ∙ c.if-excess-gt0.true in
     omega (
       arith,
       walk_room c.args.row.now c.args.bounds.now c.args.x (vec_items c.args.queue.now) (vec_items c.loop-link.queue) c.loop-link.link c.loop-link.invariant.0 c.loop-link-test.true t,
@@ -52,10 +52,10 @@ loop-link-preserved c =
     elim c.if-excess-gt0.branch [
       | then-excess-gt0 w ↦ (
         subst (λ z. Walking c.args.row.now c.args.bounds.now c.args.x (vec_items c.args.queue.now) z c.index-link-in-loop-link.result.now)
-            (sym (ap vec_items w.queue-is ∙ w.push-reserved.ensures.items ∙ ap (λ q. vec_items c.loop-link.queue ++ q ∷ []) c.from-q.ensures))
+            (sym (ap vec_items w.queue-is ∙ w.push_reserved.ensures.items ∙ ap (λ q. vec_items c.loop-link.queue ++ q ∷ []) c.from-q.ensures))
             (walk_then c.args.row.now c.args.bounds.now c.args.x (vec_items c.args.queue.now) (vec_items c.loop-link.queue) c.loop-link.link c.loop-link.invariant.0 c.loop-link-test.true
             c.index-link-in-loop-link.result.now (next d) (sym t ∙ w.if-excess-gt0.true)),
-        ap vec_capacity w.queue-is ∙ w.push-reserved.ensures.capacity ∙ c.loop-link.invariant.1,
+        ap vec_capacity w.queue-is ∙ w.push_reserved.ensures.capacity ∙ c.loop-link.invariant.1,
       )
       | else-excess-gt0 w ↦ (
         subst (λ z. Walking c.args.row.now c.args.bounds.now c.args.x (vec_items c.args.queue.now) z c.index-link-in-loop-link.result.now)

@@ -31,8 +31,8 @@ q-in c =
     subst (λ q. q < length c.args.bounds.now) (sym (q_is c))
     (All-get_or (λ q. q < length c.args.bounds.now) (vec_items c.args.queue.now) c.loop-i.i 0 (i-in c) c.requires.positions)
 
-pub offset-bounds-bounds-q : goal.offset-bounds-bounds-q
-offset-bounds-bounds-q c = omega (arith, q-in (goal.at.offset-bounds-bounds-q c).After-index-q, c.requires.few)
+pub offset_bounds-bounds-q : goal.offset_bounds-bounds-q
+offset_bounds-bounds-q c = omega (arith, q-in (goal.at.offset_bounds-bounds-q c).After-index-q, c.requires.few)
 
 pub bounds-bounds-q : goal.bounds-bounds-q
 bounds-bounds-q c = q-in (goal.at.bounds-bounds-q c).After-index-q
@@ -42,15 +42,15 @@ excess-over-requires c =
     let h = q-in (goal.at.excess-over-requires c).After-index-q in
     record { within = c.requires.named c.index-q.result.now h; small = c.requires.small c.index-q.result.now h; inside = c.requires.inside }
 
-pub index-mut-requires : goal.index-mut-requires
-index-mut-requires c =
-    omega (arith, i-in (goal.at.index-mut-requires c).After-index-q, c.loop-i.invariant.0.behind, c.loop-i.invariant.0.long, c.loop-i.queue.ok.0)
+pub index_mut-requires : goal.index_mut-requires
+index_mut-requires c =
+    omega (arith, i-in (goal.at.index_mut-requires c).After-index-q, c.loop-i.invariant.0.behind, c.loop-i.invariant.0.long, c.loop-i.queue.ok.0)
 
-pub overflow-add-count : goal.overflow-add-count
-overflow-add-count c = omega (arith, c.loop-i.invariant.0.behind, c.loop-i-test.true, c.len-i-end.type-inv)
+pub overflow_add-count : goal.overflow_add-count
+overflow_add-count c = omega (arith, c.loop-i.invariant.0.behind, c.loop-i-test.true, c.len-i-end.type_inv)
 
 over-is : (c : goal.After-excess-over) → to_z w64 (of_z w64 c.excess-over.result) ≡ excess c.args.row.now (at c.args.bounds.now c.index-q.result.now)
-over-is c = let v : to_z w64 (of_z w64 c.excess-over.result) ≡ c.excess-over.result = omega (arith, ints, c.excess-over.ok) in v ∙ c.excess-over.ensures
+over-is c = let v : to_z w64 (of_z w64 c.excess-over.result) ≡ c.excess-over.result = omega (arith, ints, c.excess-over.type_inv) in v ∙ c.excess-over.ensures
 
 pub loop-i-preserved : goal.loop-i-preserved
 loop-i-preserved c =

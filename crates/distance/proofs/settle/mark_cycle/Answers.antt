@@ -15,11 +15,11 @@ loop-k-init c = (
   omega arith,
 )
 
-step_in : (c : goal.After-shared-slice-known-in-loop-k·1) → get_or c.args.steps.now (c.loop-k.k - 1) 0 < length c.args.bounds.now
+step_in : (c : goal.After-shared_slice_known-in-loop-k-1) → get_or c.args.steps.now (c.loop-k.k - 1) 0 < length c.args.bounds.now
 step_in c = All-get_or (λ q. q < length c.args.bounds.now) c.args.steps.now (c.loop-k.k - 1) 0 (omega (arith, c.loop-k.invariant.1, c.loop-k-test.true)) c.requires.positions
 
-pub offset-bounds-bounds-q : goal.offset-bounds-bounds-q
-offset-bounds-bounds-q c = omega (arith, step_in c, c.requires.few)
+pub offset_bounds-bounds-q : goal.offset_bounds-bounds-q
+offset_bounds-bounds-q c = omega (arith, step_in c, c.requires.few)
 
 pub bounds-bounds-q : goal.bounds-bounds-q
 bounds-bounds-q c = step_in c

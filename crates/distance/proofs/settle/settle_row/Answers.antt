@@ -13,8 +13,8 @@ use Rattle.distance.proofs.Running.{Running, run_start, run_on, run_room}
 use Rattle.distance.proofs.settle.settle_row.Goals as goal
 use Rattle.distance.proofs.settle.settle_row.Goals.{After-pick-p, Else-far-le0, Else-b-last, After-limit-low}
 
-pub push-reserved-requires : goal.push-reserved-requires
-push-reserved-requires c = omega (arith, c.clear-2.ensures.len, c.clear-2.ensures.capacity, c.requires.room.1, c.requires.few.1.1)
+pub push_reserved-requires : goal.push_reserved-requires
+push_reserved-requires c = omega (arith, c.clear-2.ensures.len, c.clear-2.ensures.capacity, c.requires.room.1, c.requires.few.1.1)
 
 pub loop-left-init : goal.loop-left-init
 loop-left-init c =
@@ -69,8 +69,8 @@ p-in c =
     turn_within c.args.bounds.now c.args.last c.args.row.now c.loop-left.row (vec_items c.loop-left.steps) (vec_len c.loop-left.steps) c.loop-left.left c.loop-left.invariant.0
     c.pick-p.result.0 c.loop-left-test.true (ap (λ q. q.0) c.pick-p.ensures.worst) (far_is c)
 
-pub offset-bounds-bounds-p : goal.offset-bounds-bounds-p
-offset-bounds-bounds-p c = omega (arith, p-in c, c.requires.few.1.0)
+pub offset_bounds-bounds-p : goal.offset_bounds-bounds-p
+offset_bounds-bounds-p c = omega (arith, p-in c, c.requires.few.1.0)
 
 pub bounds-bounds-p : goal.bounds-bounds-p
 bounds-bounds-p c = p-in c
@@ -93,9 +93,9 @@ limit-low-requires c =
       inside = turn_inside c.loop-left.invariant.0 c.requires.few.0;
     }
 
-pub offset-bounds-row-b : goal.offset-bounds-row-b
-offset-bounds-row-b c =
-    let f : _ = c.requires.named c.pick-p.result.0 (p-in (goal.at.offset-bounds-row-b c).Else-far-le0) in
+pub offset_bounds-row-b : goal.offset_bounds-row-b
+offset_bounds-row-b c =
+    let f : _ = c.requires.named c.pick-p.result.0 (p-in (goal.at.offset_bounds-row-b c).Else-far-le0) in
     omega (arith, f.0, c.requires.few.0)
 
 pub bounds-row-b : goal.bounds-row-b
@@ -103,8 +103,8 @@ bounds-row-b c =
     let f : _ = c.requires.named c.pick-p.result.0 (p-in (goal.at.bounds-row-b c).Else-far-le0) in
     omega (arith, f.0, c.loop-left.auto.row)
 
-pub push-reserved-requires-in-loop-left : goal.push-reserved-requires-in-loop-left
-push-reserved-requires-in-loop-left c =
+pub push_reserved-requires-in-loop-left : goal.push_reserved-requires-in-loop-left
+push_reserved-requires-in-loop-left c =
     omega (arith, c.loop-left.invariant.0.count, c.loop-left.invariant.2, c.clear.ensures.capacity, c.requires.room.0, c.loop-left-test.true)
 
 -- the row with its next term lowered
@@ -137,7 +137,7 @@ fits-room c =
 
 -- what is written is the bound's limit
 written : (c : goal.After-limit-low) → to_z w64 (of_z w64 c.limit-low.result) ≡ limit c.loop-left.row (at c.args.bounds.now c.pick-p.result.0)
-written c = omega (arith, ints, c.limit-low.ensures, c.limit-low.ok)
+written c = omega (arith, ints, c.limit-low.ensures, c.limit-low.type_inv)
 
 pub enqueue-requires : goal.enqueue-requires
 enqueue-requires c =
@@ -162,15 +162,15 @@ pub loop-left-preserved : goal.loop-left-preserved
 loop-left-preserved c =
     let d : goal.Else-b-last = (goal.at.loop-left-preserved c).Else-b-last in
     let v = written (goal.at.loop-left-preserved c).After-limit-low in
-    let pushed = c.push-reserved-in-loop-left.ensures.items in
+    let pushed = c.push_reserved-in-loop-left.ensures.items in
     let bs : List Bound = c.args.bounds.now in
     let x : ℕ = (at c.args.bounds.now c.pick-p.result.0).term in
     let row : List ℤ = c.loop-left.row in
     let q : vec_items c.enqueue.new.queue ≡ queued d ++ broken_on (set row x (to_z w64 (of_z w64 c.limit-low.result))) bs x (length bs) =
     c.enqueue.ensures.items ∙ ap (λ z. z ++ broken_on (set row x (to_z w64 (of_z w64 c.limit-low.result))) bs x (length bs)) c.pick-p.ensures.kept in (
-      simp (v, pushed, c.push-reserved-in-loop-left.ensures.len) (turned d),
+      simp (v, pushed, c.push_reserved-in-loop-left.ensures.len) (turned d),
       simp (q, v, pushed) (ran d),
-      c.push-reserved-in-loop-left.ensures.capacity ∙ c.loop-left.invariant.2,
+      c.push_reserved-in-loop-left.ensures.capacity ∙ c.loop-left.invariant.2,
       c.enqueue.ensures.capacity ∙ c.pick-p.ensures.capacity ∙ c.loop-left.invariant.3,
     )
 

@@ -12,15 +12,15 @@ returns-then-terms-gt256 c = past_limit (λ l.
       | then-terms-gt256-via-else-terms-gt256+else-claims-gt128+then-not-few_arguments w ↦ true≢false (sym (w.few_arguments.ensures.1 l.arities) ∙ w.if-not-few_arguments.true)
     ])
 
-pub returns-then-not-lower-arguments : goal.returns-then-not-lower-arguments
-returns-then-not-lower-arguments c =
+pub returns-then-not-lower_arguments : goal.returns-then-not-lower_arguments
+returns-then-not-lower_arguments c =
     not_lower
-    (record { few_terms = c.if-terms-gt256.false; few_claims = c.if-claims-gt128.false; arities = c.few-arguments.ensures.0 c.if-not-few-arguments.false })
-    (λ h. true≢false (sym (c.lower-arguments.ensures.1 h) ∙ c.if-not-lower-arguments.true))
+    (record { few_terms = c.if-terms-gt256.false; few_claims = c.if-claims-gt128.false; arities = c.few_arguments.ensures.0 c.if-not-few_arguments.false })
+    (λ h. true≢false (sym (c.lower_arguments.ensures.1 h) ∙ c.if-not-lower_arguments.true))
 
-pub returns-then-not-named-terms : goal.returns-then-not-named-terms
-returns-then-not-named-terms c =
+pub returns-then-not-named_terms : goal.returns-then-not-named_terms
+returns-then-not-named_terms c =
     no_term
-    (record { few_terms = c.if-terms-gt256.false; few_claims = c.if-claims-gt128.false; arities = c.few-arguments.ensures.0 c.if-not-few-arguments.false })
-    (c.lower-arguments.ensures.0 c.if-not-lower-arguments.false)
-    (λ h. true≢false (sym (c.named-terms.ensures.1 h) ∙ c.if-not-named-terms.true))
+    (record { few_terms = c.if-terms-gt256.false; few_claims = c.if-claims-gt128.false; arities = c.few_arguments.ensures.0 c.if-not-few_arguments.false })
+    (c.lower_arguments.ensures.0 c.if-not-lower_arguments.false)
+    (λ h. true≢false (sym (c.named_terms.ensures.1 h) ∙ c.if-not-named_terms.true))

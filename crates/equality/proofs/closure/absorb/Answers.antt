@@ -44,8 +44,8 @@ merge-requires c =
       right = c.requires.right;
     }
 
-pub overflow-add-from : goal.overflow-add-from
-overflow-add-from c =
+pub overflow_add-from : goal.overflow_add-from
+overflow_add-from c =
     record { fits = omega (arith, merges_room c.args.terms.now.records.now c.args.steps.now c.args.from _ c.requires.ready.formed c.requires.left, c.args.terms.now.few) }
 
 pub settle-requires : goal.settle-requires

@@ -39,8 +39,8 @@ merge-requires c =
       right = low;
     }
 
-pub overflow-add-result : goal.overflow-add-result
-overflow-add-result c =
+pub overflow_add-result : goal.overflow_add-result
+overflow_add-result c =
     record { fits = omega (arith, merges_room c.args.terms.now.records.now c.args.steps.now c.args.count c.args.t c.requires.ready.formed c.requires.term, c.args.terms.now.few) }
 
 pub returns-in-None : goal.returns-in-None

@@ -15,8 +15,8 @@ near_at ts u v e = subst (Near ts u) (sym e) (nearest_is ts u)
 pub loop-v-init : goal.loop-v-init
 loop-v-init c = (walk_start c.args.terms.now.records.now (cell c.args.rows.now c.args.k) c.args.t, c.requires.indexed c.args.t c.requires.term)
 
-pub same-arguments-requires : goal.same-arguments-requires
-same-arguments-requires c =
+pub same_arguments-requires : goal.same_arguments-requires
+same_arguments-requires c =
     let ts = c.args.terms.now.records.now in
     let i = c.loop-v.invariant in
     record {
@@ -25,13 +25,13 @@ same-arguments-requires c =
       head = walk_head ts (cell c.args.rows.now c.args.k) c.args.t c.loop-v.u c.loop-v.v i.0 (near_at ts c.loop-v.u c.loop-v.v i.1);
     }
 
-pub returns-then-same-arguments : goal.returns-then-same-arguments
-returns-then-same-arguments c =
+pub returns-then-same_arguments : goal.returns-then-same_arguments
+returns-then-same_arguments c =
     let ts = c.args.terms.now.records.now in
     let i = c.loop-v.invariant in
     sym (walk_hit ts (cell c.args.rows.now c.args.k) c.args.t c.loop-v.u c.loop-v.v i.0 (near_at ts c.loop-v.u c.loop-v.v i.1)
     c.loop-v-test.true (λ e. c.if-label.true (c.label.ensures ∙ e ∙ sym c.label-in-loop-v.ensures))
-    (c.same-arguments.ensures.0 c.if-same-arguments.true))
+    (c.same_arguments.ensures.0 c.if-same_arguments.true))
 
 pub loop-v-preserved : goal.loop-v-preserved
 loop-v-preserved c =

@@ -143,8 +143,8 @@ bounds-marks-k t c =
       in_log c.args.terms.now.records.now c.args.steps.now c.args.t c.joining-k.result c.args.upto c.args.terms.now.few c.requires.long.0 c.requires.formed c.requires.near c.joining-k.ensures.0,
     )
 
-pub offset-bounds-steps-k : goal.offset-bounds-steps-k
-offset-bounds-steps-k t c =
+pub offset_bounds-steps-k : goal.offset_bounds-steps-k
+offset_bounds-steps-k t c =
     record {
       fits = omega (
         arith,

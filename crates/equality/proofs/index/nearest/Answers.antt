@@ -2,10 +2,10 @@ use Rattle.std.proofs.Common.{sym, ◌∙◌, arith}
 use Rattle.equality.proofs.Nearest.{nearest_hit, nearest_past, nearest_none}
 use Rattle.equality.proofs.index.nearest.Goals as goal
 
-pub returns-then-same-head : goal.returns-then-same-head
-returns-then-same-head c =
+pub returns-then-same_head : goal.returns-then-same_head
+returns-then-same_head c =
     nearest_hit c.args.terms.now.records.now c.args.t c.loop-u.u c.loop-u-test.true c.loop-u.invariant.1
-    (sym c.same-head.ensures ∙ c.if-same-head.true)
+    (sym c.same_head.ensures ∙ c.if-same_head.true)
 
 pub loop-u-preserved : goal.loop-u-preserved
 loop-u-preserved c = (

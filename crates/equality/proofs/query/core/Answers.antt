@@ -11,8 +11,8 @@ bounds-list-d c = (clash_at c.args.terms.now.records.now c.args.claims.now c.arg
 pub bounds-claims-list : goal.bounds-claims-list
 bounds-claims-list c = (c.requires.listed c.args.d (clash_at c.args.terms.now.records.now c.args.claims.now c.args.list.now c.args.d (sym c.requires.clash)).0).0
 
-pub core-of-requires : goal.core-of-requires
-core-of-requires c =
+pub core_of-requires : goal.core_of-requires
+core_of-requires c =
     let ts = c.args.terms.now.records.now in
     let claims = c.args.claims.now in
     let ls = c.args.list.now in

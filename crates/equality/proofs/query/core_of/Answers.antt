@@ -18,8 +18,8 @@ explain-requires c = record {
   whole = λ j p h e b. absurd (true≢false (sym e ∙ c.requires.clear j));
 }
 
-pub cite-all-requires : goal.cite-all-requires
-cite-all-requires c = record { long = (c.requires.long.0, c.explain.ensures.long ∙ c.requires.long.1.0); clear = λ p h. get_or-replicate 128 p false false h }
+pub cite_all-requires : goal.cite_all-requires
+cite_all-requires c = record { long = (c.requires.long.0, c.explain.ensures.long ∙ c.requires.long.1.0); clear = λ p h. get_or-replicate 128 p false false h }
 
 pub returns : goal.returns
 returns c =

@@ -16,11 +16,11 @@ loop-p-preserved c =
       | then-in_core w ↦
           partly_as _ _ c.args.len _ c.args.place.now _ _ _ _ w.place-is w.n-is
           (partly_put _ c.loop-p.p c.args.len _ c.args.place.now c.loop-p.place c.loop-p.n c.loop-p-test.true c.requires.within
-          (sym c.in-core.ensures ∙ w.if-in-core.true) c.loop-p.invariant)
+          (sym c.in_core.ensures ∙ w.if-in_core.true) c.loop-p.invariant)
       | else-in_core w ↦
           partly_as _ _ c.args.len _ c.args.place.now _ _ _ _ w.place-is w.n-is
           (partly_skip _ c.loop-p.p c.args.len _ c.args.place.now c.loop-p.place c.loop-p.n c.loop-p-test.true
-          (sym c.in-core.ensures ∙ w.if-in-core.false) c.loop-p.invariant)
+          (sym c.in_core.ensures ∙ w.if-in_core.false) c.loop-p.invariant)
     ]
 
 pub returns : goal.returns

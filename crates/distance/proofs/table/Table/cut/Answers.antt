@@ -16,18 +16,18 @@ left-indexed c =
     let e : take c.args.k c.deref.result.now ≡ vec_items c.truncate.new.self = ap (take c.args.k) c.deref.ensures.value ∙ sym c.truncate.ensures.items in
     subst (λ z. Indexed z c.leave.new.self) e c.leave.ensures.index
 
-pub invariant-of-self : goal.invariant-of-self
-invariant-of-self c =
+pub invariant_of-self : goal.invariant_of-self
+invariant_of-self c =
     let s = c.args.self.now in
     let g : min c.args.k s.good ≡ c.args.k = omega (arith, c.if-k-self.true) in
-    let i = left-indexed (goal.at.invariant-of-self c).After-truncate in
-    let t = subst (λ z. Held s.terms s.most (vec_items c.truncate.new.self) (vec_items s.rows) z (vec_items s.marks)) g (cut-to (goal.at.invariant-of-self c).After-truncate) in
-    (t.few, (t.named, (t.small, (t.possible, (t.broken, (t.lengths, (i, ((c.leave.ensures.same.0 ∙ s.wide.0, c.leave.ensures.same.1 ∙ s.wide.1, s.wide.2), ((omega (arith, c.truncate.ensures.capacity, s.room.0), s.room.1, s.room.2), tt)))))))))
+    let i = left-indexed (goal.at.invariant_of-self c).After-truncate in
+    let t = subst (λ z. Held s.terms s.most (vec_items c.truncate.new.self) (vec_items s.rows) z (vec_items s.marks)) g (cut-to (goal.at.invariant_of-self c).After-truncate) in
+    record { few = t.few; named = t.named; small = t.small; possible = t.possible; broken = t.broken; lengths = t.lengths; indexed = i; wide = (c.leave.ensures.same.0 ∙ s.wide.0, c.leave.ensures.same.1 ∙ s.wide.1, s.wide.2); room = (omega (arith, c.truncate.ensures.capacity, s.room.0), s.room.1, s.room.2) }
 
-pub invariant-of-self-else-k-self : goal.invariant-of-self-else-k-self
-invariant-of-self-else-k-self c =
+pub invariant_of-self-else-k-self : goal.invariant_of-self-else-k-self
+invariant_of-self-else-k-self c =
     let s = c.args.self.now in
     let g : min c.args.k s.good ≡ s.good = omega (arith, c.if-k-self.false) in
-    let i = left-indexed (goal.at.invariant-of-self-else-k-self c).After-truncate in
-    let t = subst (λ z. Held s.terms s.most (vec_items c.truncate.new.self) (vec_items s.rows) z (vec_items s.marks)) g (cut-to (goal.at.invariant-of-self-else-k-self c).After-truncate) in
-    (t.few, (t.named, (t.small, (t.possible, (t.broken, (t.lengths, (i, ((c.leave.ensures.same.0 ∙ s.wide.0, c.leave.ensures.same.1 ∙ s.wide.1, s.wide.2), ((omega (arith, c.truncate.ensures.capacity, s.room.0), s.room.1, s.room.2), tt)))))))))
+    let i = left-indexed (goal.at.invariant_of-self-else-k-self c).After-truncate in
+    let t = subst (λ z. Held s.terms s.most (vec_items c.truncate.new.self) (vec_items s.rows) z (vec_items s.marks)) g (cut-to (goal.at.invariant_of-self-else-k-self c).After-truncate) in
+    record { few = t.few; named = t.named; small = t.small; possible = t.possible; broken = t.broken; lengths = t.lengths; indexed = i; wide = (c.leave.ensures.same.0 ∙ s.wide.0, c.leave.ensures.same.1 ∙ s.wide.1, s.wide.2); room = (omega (arith, c.truncate.ensures.capacity, s.room.0), s.room.1, s.room.2) }

@@ -14,8 +14,8 @@ returns-then-self-len c =
     let o = not_possible s.terms s.most (vec_items s.bounds) (vec_items s.rows) s.good (vec_items s.marks) (held s) some in
     record { says = sym (ap (λ (z : Outcome). fit_says (answer_of z)) o); place = sym (ap (λ (z : Outcome). fit_over (answer_of z) (row_of z) c.args.place.now) o) }
 
-pub slice-bounds-copy-from-slice-end-2 : goal.slice-bounds-copy-from-slice-end-2
-slice-bounds-copy-from-slice-end-2 c =
+pub slice_bounds-copy_from_slice-end-2 : goal.slice_bounds-copy_from_slice-end-2
+slice_bounds-copy_from_slice-end-2 c =
     let s = c.args.self.now in
     let r = row_in s.terms s.most (vec_items s.bounds) (vec_items s.rows) s.good (vec_items s.marks) (held s) in
     let l = ap length c.deref.ensures.value in

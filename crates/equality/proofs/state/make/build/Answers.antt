@@ -24,20 +24,20 @@ logged ts claims list merges ss n rows w e k h =
     let z : k ≡ 0 = omega arith in
     ap (λ (j : ℕ). until ss (get_or merges j 0)) z ∙ ap (until ss) e ∙ w.log_is ∙ log_at_none ts claims list ∙ ap (log_at ts claims list) (sym z)
 
-pub invariant-of-result : goal.invariant-of-result
-invariant-of-result c =
+pub invariant_of-result : goal.invariant_of-result
+invariant_of-result c =
     let ts = c.args.terms.now in
     let claims = c.args.claims.now in
-    let list = vec_items c.in-ok-list.list in
-    let merges = vec_items c.in-ok-merges.merges in
-    let f = c.in-ok-steps.field-0 in
+    let list = vec_items c.in_ok-list.list in
+    let merges = vec_items c.in_ok-merges.merges in
+    let f = c.in_ok-steps.field-0 in
     let steps = f.steps in
     let rows = f.rows in
     let n = f.count in
-    let w : Closed ts (vec_items steps) n (vec_items rows) = c.in-ok-steps.ensures in
-    let m = c.in-ok-merges.ensures in
-    let marks = c.in-ok-marks.marks in
-    let clear = c.in-ok-marks.ensures in (
+    let w : Closed ts (vec_items steps) n (vec_items rows) = c.in_ok-steps.ensures in
+    let m = c.in_ok-merges.ensures in
+    let marks = c.in_ok-marks.marks in
+    let clear = c.in_ok-marks.ensures in (
       c.requires.limits.few_claims,
       (
         c.requires.named,
@@ -46,7 +46,7 @@ invariant-of-result c =
           (
             c.in-ok-near.ensures.1,
             (
-              c.in-ok-list.ensures,
+              c.in_ok-list.ensures,
               (
                 m.0,
                 (

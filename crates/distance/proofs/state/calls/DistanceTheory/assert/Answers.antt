@@ -34,16 +34,16 @@ add-requires c =
       room = omega (arith, room d, s.most, s.table.bounds.ok.0, ap length s.says, length-map (vec_items s.list) (bound_of claims));
     }
 
-pub push-reserved-requires : goal.push-reserved-requires
-push-reserved-requires c =
+pub push_reserved-requires : goal.push_reserved-requires
+push_reserved-requires c =
     let s = c.args.self.now in
-    omega (arith, room (goal.at.push-reserved-requires c).After-bound-of, s.room, s.list.ok.0)
+    omega (arith, room (goal.at.push_reserved-requires c).After-bound_of, s.room, s.list.ok.0)
 
-pub invariant-of-self : goal.invariant-of-self
-invariant-of-self c =
+pub invariant_of-self : goal.invariant_of-self
+invariant_of-self c =
     let s = c.args.self.now in
     let claims = s.claims.now in
-    let left : Proper (length claims) (vec_items c.push-reserved.new.self) = subst (Proper (length claims)) (sym c.push-reserved.ensures.items) (longer (goal.at.invariant-of-self c).After-bound-of) in
-    let says = c.add.ensures.list ∙ ap (λ (z : List Bound). z ++ c.bound-of.result ∷ []) s.says ∙ ap (λ (b : Bound). said claims (vec_items s.list) ++ b ∷ []) c.bound-of.ensures
-    ∙ sym (map_push (bound_of claims) (vec_items s.list) c.args.l) ∙ ap (said claims) (sym c.push-reserved.ensures.items) in
-    (s.few, (subst (λ m. Named m claims) (sym c.add.ensures.same.0) s.named, (s.range, (omega (arith, c.push-reserved.ensures.capacity, s.room), (c.add.ensures.same.1 ∙ s.most, (left.below, (left.apart_claims, (says, tt))))))))
+    let left : Proper (length claims) (vec_items c.push_reserved.new.self) = subst (Proper (length claims)) (sym c.push_reserved.ensures.items) (longer (goal.at.invariant_of-self c).After-bound_of) in
+    let says = c.add.ensures.list ∙ ap (λ (z : List Bound). z ++ c.bound_of.result ∷ []) s.says ∙ ap (λ (b : Bound). said claims (vec_items s.list) ++ b ∷ []) c.bound_of.ensures
+    ∙ sym (map_push (bound_of claims) (vec_items s.list) c.args.l) ∙ ap (said claims) (sym c.push_reserved.ensures.items) in
+    (s.few, (subst (λ m. Named m claims) (sym c.add.ensures.same.0) s.named, (s.range, (omega (arith, c.push_reserved.ensures.capacity, s.room), (c.add.ensures.same.1 ∙ s.most, (left.below, (left.apart_claims, (says, tt))))))))

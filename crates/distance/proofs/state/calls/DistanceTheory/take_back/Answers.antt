@@ -11,11 +11,11 @@ cut-requires c =
     let s = c.args.self.now in
     omega (arith, c.if-k-len.false, c.len.ensures, s.list.ok.0, s.table.bounds.ok.0, ap length s.says, length-map (vec_items s.list) (bound_of s.claims.now))
 
-pub invariant-of-self : goal.invariant-of-self
-invariant-of-self c =
+pub invariant_of-self : goal.invariant_of-self
+invariant_of-self c =
     let s = c.args.self.now in
     let claims = s.claims.now in
     let proper = proper_take (length claims) c.args.k (vec_items s.list) (record { below = s.below; apart_claims = s.distinct }) in
     let left : Proper (length claims) (vec_items c.truncate.new.self) = subst (Proper (length claims)) (sym c.truncate.ensures.items) proper in
     let says = c.cut.ensures.list ∙ ap (take c.args.k) s.says ∙ take-map (bound_of claims) c.args.k (vec_items s.list) ∙ ap (said claims) (sym c.truncate.ensures.items) in
-    (s.few, (subst (λ m. Named m claims) (sym c.cut.ensures.same.0) s.named, (s.range, (omega (arith, c.truncate.ensures.capacity, s.room), (c.cut.ensures.same.1 ∙ s.most, (left.below, (left.apart_claims, (says, tt))))))))
+    record { few = s.few; named = subst (λ m. Named m claims) (sym c.cut.ensures.same.0) s.named; range = s.range; room = omega (arith, c.truncate.ensures.capacity, s.room); most = c.cut.ensures.same.1 ∙ s.most; below = left.below; distinct = left.apart_claims; says = says }

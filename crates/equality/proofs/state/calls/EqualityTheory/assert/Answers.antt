@@ -80,70 +80,43 @@ module _ (s : Equality) (l from r : ℕ) (ls : List ℕ) (old rs : List Step) (r
       (subst (λ (x : List Step). Held s.terms.records.now s.claims.now (set (vec_items s.list) s.len l) (s.len + 1) (set (vec_items s.merges) (s.len + 1) r) x rows') (sym (with_items_is s.steps rs a))
       (held_push s.terms.records.now s.claims.now (vec_items s.list) s.len (vec_items s.merges) (vec_items s.steps) (vec_items s.rows) (held s) l r rs rows' low new ran_here))
 
-pub index-mut-requires : goal.index-mut-requires
-index-mut-requires c =
+pub index_mut-requires : goal.index_mut-requires
+index_mut-requires c =
     let s = c.args.self.now in
     omega (
       arith,
       s.list_long,
-      room s c.args.l c.index.result.now c.absorb-count.result c.deref.result.now c.deref-mut.result.now c.absorb-count.new.steps c.absorb-count.new.rows
-          c.deref-mut.ensures.value c.index.ensures c.if-l-self.false c.deref.ensures.value (sym c.if-names.false ∙ c.names.ensures) c.absorb-count.ensures,
+      room s c.args.l c.index.result.now c.absorb-count.result c.deref.result.now c.deref_mut.result.now c.absorb-count.new.steps c.absorb-count.new.rows
+          c.deref_mut.ensures.value c.index.ensures c.if-l-self.false c.deref.ensures.value (sym c.if-names.false ∙ c.names.ensures) c.absorb-count.ensures,
     )
 
-pub overflow-cast-self : goal.overflow-cast-self
-overflow-cast-self c =
+pub overflow_cast-count : goal.overflow_cast-count
+overflow_cast-count c =
     let s = c.args.self.now in
     record {
       fits = omega (
         arith,
-        few s c.args.l c.index.result.now c.absorb-count.result c.deref.result.now c.deref-mut.result.now c.absorb-count.new.steps c.absorb-count.new.rows
-            c.deref-mut.ensures.value c.index.ensures c.if-l-self.false c.deref.ensures.value (sym c.if-names.false ∙ c.names.ensures) c.absorb-count.ensures,
+        few s c.args.l c.index.result.now c.absorb-count.result c.deref.result.now c.deref_mut.result.now c.absorb-count.new.steps c.absorb-count.new.rows
+            c.deref_mut.ensures.value c.index.ensures c.if-l-self.false c.deref.ensures.value (sym c.if-names.false ∙ c.names.ensures) c.absorb-count.ensures,
       );
     }
 
-pub index-mut-requires-2 : goal.index-mut-requires-2
-index-mut-requires-2 c =
+pub index_mut-requires-2 : goal.index_mut-requires-2
+index_mut-requires-2 c =
     let s = c.args.self.now in
     omega (
       arith,
       s.merges_long,
-      room s c.args.l c.index.result.now c.absorb-count.result c.deref.result.now c.deref-mut.result.now c.absorb-count.new.steps c.absorb-count.new.rows
-          c.deref-mut.ensures.value c.index.ensures c.if-l-self.false c.deref.ensures.value (sym c.if-names.false ∙ c.names.ensures) c.absorb-count.ensures,
+      room s c.args.l c.index.result.now c.absorb-count.result c.deref.result.now c.deref_mut.result.now c.absorb-count.new.steps c.absorb-count.new.rows
+          c.deref_mut.ensures.value c.index.ensures c.if-l-self.false c.deref.ensures.value (sym c.if-names.false ∙ c.names.ensures) c.absorb-count.ensures,
     )
 
-pub invariant-of-self-2 : goal.invariant-of-self-2
-invariant-of-self-2 c =
+pub invariant_of-self-2 : goal.invariant_of-self-2
+invariant_of-self-2 c =
     let s = c.args.self.now in
-    let h = stored s c.args.l c.index.result.now c.absorb-count.result c.deref.result.now c.deref-mut.result.now c.absorb-count.new.steps c.absorb-count.new.rows
-    c.deref-mut.ensures.value c.index.ensures c.if-l-self.false c.deref.ensures.value (sym c.if-names.false ∙ c.names.ensures) c.absorb-count.ensures
-    (c.absorb-count.auto.steps ∙ c.deref-mut.ensures.len) (c.absorb-count.auto.rows ∙ c.deref-mut-2.ensures.len) in (
-      s.few,
-      (
-        s.named,
-        (
-          s.near_long,
-          (
-            s.indexed,
-            (
-              s.list_long,
-              (
-                s.merges_long,
-                (
-                  s.steps_long,
-                  (
-                    s.rows_long,
-                    (
-                      s.marks_long,
-                      (h.short, (h.proper.below, (h.proper.apart_claims, (h.rising, (h.logged, ((λ k t p. h.tabled k t p.0 p.1), (s.clear, tt))))))),
-                    ),
-                  ),
-                ),
-              ),
-            ),
-          ),
-        ),
-      ),
-    )
+    let h = stored s c.args.l c.index.result.now c.absorb-count.result c.deref.result.now c.deref_mut.result.now c.absorb-count.new.steps c.absorb-count.new.rows
+    c.deref_mut.ensures.value c.index.ensures c.if-l-self.false c.deref.ensures.value (sym c.if-names.false ∙ c.names.ensures) c.absorb-count.ensures
+    (c.absorb-count.auto.steps ∙ c.deref_mut.ensures.len) (c.absorb-count.auto.rows ∙ c.deref_mut-2.ensures.len) in record { few = s.few; named = s.named; near_long = s.near_long; indexed = s.indexed; list_long = s.list_long; merges_long = s.merges_long; steps_long = s.steps_long; rows_long = s.rows_long; marks_long = s.marks_long; short = h.short; below = h.proper.below; distinct = h.proper.apart_claims; rising = h.rising; logged = h.logged; tabled = (λ k t p. h.tabled k t p.0 p.1); clear = s.clear }
 
 pub returns : goal.returns
 returns c =

@@ -26,36 +26,9 @@ core-n-requires c =
       within = omega (arith, w.few, c.if-place-self.false);
     }
 
-pub invariant-of-self-in-Some : goal.invariant-of-self-in-Some
-invariant-of-self-in-Some c =
+pub invariant_of-self-in-Some : goal.invariant_of-self-in-Some
+invariant_of-self-in-Some c =
     let s = c.args.self.now in
     let table = c.core-n.new.table in
     let clear : (k : ℕ) → get_or (with_items s.marks table).items k false ≡ false =
-    λ k. ap (λ (xs : List Bool). get_or xs k false) (with_items_is s.marks table (c.core-n.auto.table ∙ c.deref-mut.ensures.len)) ∙ c.core-n.ensures.clear.1 k in (
-      s.few,
-      (
-        s.named,
-        (
-          s.near_long,
-          (
-            s.indexed,
-            (
-              s.list_long,
-              (
-                s.merges_long,
-                (
-                  s.steps_long,
-                  (
-                    s.rows_long,
-                    (
-                      s.marks_long,
-                      (s.short, (s.below, (s.distinct, (s.rising, (s.logged, (s.tabled, (clear, tt))))))),
-                    ),
-                  ),
-                ),
-              ),
-            ),
-          ),
-        ),
-      ),
-    )
+    λ k. ap (λ (xs : List Bool). get_or xs k false) (with_items_is s.marks table (c.core-n.auto.table ∙ c.deref_mut.ensures.len)) ∙ c.core-n.ensures.clear.1 k in record { few = s.few; named = s.named; near_long = s.near_long; indexed = s.indexed; list_long = s.list_long; merges_long = s.merges_long; steps_long = s.steps_long; rows_long = s.rows_long; marks_long = s.marks_long; short = s.short; below = s.below; distinct = s.distinct; rising = s.rising; logged = s.logged; tabled = s.tabled; clear = clear }

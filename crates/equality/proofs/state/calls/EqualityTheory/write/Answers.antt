@@ -16,8 +16,8 @@ clash-requires c =
     let w = read s c.index.result.now c.deref.result.now c.deref-2.result.now c.deref-3.result.now c.deref.ensures.value c.deref-2.ensures.value c.deref-3.ensures.value c.index.ensures in
     record { short = w.short; listed = w.listed; formed = w.formed; tabled = w.tabled; log = w.log; long = w.rows_long }
 
-pub write-labels-requires : goal.write-labels-requires
-write-labels-requires c =
+pub write_labels-requires : goal.write_labels-requires
+write_labels-requires c =
     let s = c.args.self.now in
     let ts = s.terms.records.now in
     let n = c.index.result.now in
