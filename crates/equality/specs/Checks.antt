@@ -1,6 +1,8 @@
 -- Which records a theory of equality is made of, and why others are refused. Assumes nothing.
-use Rattle.std.specs.Prelude.{ℕ, ◌≤◌, List, length}
+use Rattle.std.specs.Prelude.{◌≤◌, List, length}
 use Rattle.theory.specs.declared.term.Term.{Term}
+use Rattle.theory.specs.declared.refusal.Refusal.{Refusal}
+use Rattle.theory.specs.declared.refusal.Refusal.TheVariants.{PastLimit, ArgumentNotLower, NoSuchTerm}
 use Rattle.congruence.specs.declared.claim.Claim.{Claim}
 use Rattle.congruence.specs.Table.{Arities, Lower}
 use Rattle.congruence.specs.Equality.{Named}
@@ -17,8 +19,8 @@ pub record Sound (ts : List Term) (claims : List Claim) : Type 0 where
   pub lower : Lower ts
   pub named : Named ts claims
 
--- the number by which others are refused: that of the first cause, each looked for over the whole input
-pub data Barred (ts : List Term) (claims : List Claim) : ℕ → Type 0 where
-  past_limit : (Limits ts claims → ⊥) → Barred ts claims 1
-  not_lower : Limits ts claims → (Lower ts → ⊥) → Barred ts claims 2
-  no_term : Limits ts claims → Lower ts → (Named ts claims → ⊥) → Barred ts claims 3
+-- why others are refused: the first cause, each looked for over the whole input
+pub data Barred (ts : List Term) (claims : List Claim) : Refusal → Type 0 where
+  past_limit : (Limits ts claims → ⊥) → Barred ts claims PastLimit
+  not_lower : Limits ts claims → (Lower ts → ⊥) → Barred ts claims ArgumentNotLower
+  no_term : Limits ts claims → Lower ts → (Named ts claims → ⊥) → Barred ts claims NoSuchTerm

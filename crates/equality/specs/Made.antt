@@ -3,7 +3,6 @@ use Rattle.std.specs.Prelude.{◌≡◌, List, Ok, Err, Result}
 use Rattle.theory.specs.declared.refusal.Unmade.{Unmade}
 use Rattle.theory.specs.declared.refusal.Unmade.TheVariants.{Refused, NoMemory}
 use Rattle.theory.specs.declared.term.Term.{Term}
-use Rattle.theory.specs.Refusals.{number}
 use Rattle.congruence.specs.declared.claim.Claim.{Claim}
 use Rattle.congruence.specs.Equality.{Standing}
 use Rattle.equality.specs.declared.state.Equality.{Equality}
@@ -20,4 +19,4 @@ pub record New (ts : List Term) (claims : List Claim) (e : Equality) : Type 0 wh
 abbrev pub Made : List Term → List Claim → Result Equality Unmade → Type 0
 Made ts claims (Ok e) = Sound ts claims × New ts claims e
 Made ts claims (Err NoMemory) = Sound ts claims
-Made ts claims (Err (Refused x)) = Barred ts claims (number x)
+Made ts claims (Err (Refused x)) = Barred ts claims x

@@ -1,6 +1,5 @@
 //! What records a theory may be made of.
 ghost use Rattle.std.specs.Prelude.{ℕ, ◌<◌, ◌≤◌, length, Decides, MatchResult};
-ghost use Rattle.theory.specs.Refusals.{number};
 ghost use Rattle.congruence.specs.Table.{Arities, Lower};
 ghost use Rattle.congruence.specs.Equality.{Named};
 ghost use Rattle.equality.specs.Checks.{Limits, Sound, Barred};
@@ -50,7 +49,7 @@ fn named_terms(terms: &[Term], claims: &[Claim]) -> bool
 
 /// Checks records for a theory: each cause of refusal over the whole input before the next.
 pub(crate) fn check(terms: &[Term], claims: &[Claim]) -> Result<(), Refusal>
-    ensures { MatchResult result (λ _. Sound terms.now claims.now) (λ e. Barred terms.now claims.now (number e)) }
+    ensures { MatchResult result (λ _. Sound terms.now claims.now) (λ e. Barred terms.now claims.now e) }
 {
     if terms.len() > 256 || claims.len() > 128 || !few_arguments(terms) {
         return Err(Refusal::PastLimit);

@@ -74,20 +74,14 @@ explain-requires t c =
         (
           fewer ts c.args.rows.now c.args.steps.now c.joining-k.result c.args.upto below c.requires.tabled,
           (
-            c.requires.long.0,
+            (c.requires.long.0, (c.requires.long.1.0, c.requires.long.1.1)),
             (
-              c.requires.long.1.0,
+              c.requires.near,
               (
-                c.requires.long.1.1,
+                c.sides-by.ensures.near_in,
                 (
-                  c.requires.near,
-                  (
-                    c.sides-by.ensures.near_in,
-                    (
-                      c.sides-by.ensures.near_side,
-                      c.requires.whole,
-                    ),
-                  ),
+                  c.sides-by.ensures.near_side,
+                  c.requires.whole,
                 ),
               ),
             ),
@@ -106,20 +100,14 @@ explain-requires-2 t c =
         (
           fewer ts c.args.rows.now c.args.steps.now c.joining-k.result c.args.upto below c.requires.tabled,
           (
-            c.requires.long.0,
+            (c.requires.long.0, (c.explain.ensures.long ∙ c.requires.long.1.0, c.requires.long.1.1)),
             (
-              c.explain.ensures.long ∙ c.requires.long.1.0,
+              c.sides-by.ensures.far_in,
               (
-                c.requires.long.1.1,
+                c.requires.far,
                 (
-                  c.sides-by.ensures.far_in,
-                  (
-                    c.requires.far,
-                    (
-                      c.sides-by.ensures.far_side,
-                      c.explain.ensures.whole,
-                    ),
-                  ),
+                  c.sides-by.ensures.far_side,
+                  c.explain.ensures.whole,
                 ),
               ),
             ),
@@ -227,20 +215,14 @@ explain-requires-in-loop-i t c =
         (
           fewer ts c.args.rows.now ss k c.args.upto below c.requires.tabled,
           (
-            c.requires.long.0,
+            (c.requires.long.0, (c.loop-i.invariant.long ∙ c.explain-2.ensures.long ∙ c.explain.ensures.long ∙ c.requires.long.1.0, c.requires.long.1.1)),
             (
-              c.loop-i.invariant.long ∙ c.explain-2.ensures.long ∙ c.explain.ensures.long ∙ c.requires.long.1.0,
+              omega (arith, r.0.left_in, lower (step_at ss k).left r.0.left_in i c.loop-i-test.true),
               (
-                c.requires.long.1.1,
+                omega (arith, r.0.right_in, lower (step_at ss k).right r.0.right_in i (omega (arith, cong.1, c.loop-i-test.true))),
                 (
-                  omega (arith, r.0.left_in, lower (step_at ss k).left r.0.left_in i c.loop-i-test.true),
-                  (
-                    omega (arith, r.0.right_in, lower (step_at ss k).right r.0.right_in i (omega (arith, cong.1, c.loop-i-test.true))),
-                    (
-                      cong.2 i c.loop-i-test.true,
-                      c.loop-i.invariant.whole,
-                    ),
-                  ),
+                  cong.2 i c.loop-i-test.true,
+                  c.loop-i.invariant.whole,
                 ),
               ),
             ),

@@ -37,52 +37,25 @@ invariant_of-result c =
     let w : Closed ts (vec_items steps) n (vec_items rows) = c.in_ok-steps.ensures in
     let m = c.in_ok-merges.ensures in
     let marks = c.in_ok-marks.marks in
-    let clear = c.in_ok-marks.ensures in (
-      c.requires.limits.few_claims,
-      (
-        c.requires.named,
-        (
-          c.in-ok-near.ensures.0,
-          (
-            c.in-ok-near.ensures.1,
-            (
-              c.in_ok-list.ensures,
-              (
-                m.0,
-                (
-                  steps.ok.0 ∙ w.ready.steps_long,
-                  (
-                    rows.ok.0 ∙ w.ready.rows_long,
-                    (
-                      marks.ok.0 ∙ ap length clear ∙ length-replicate 256 false,
-                      (
-                        omega arith,
-                        (
-                          refl,
-                          (
-                            refl,
-                            (
-                              (λ j k a b. let z : j ≡ k = omega arith in omega (arith, ap (λ (i : ℕ). get_or merges i 0) z)),
-                              (
-                                logged ts claims list merges (vec_items steps) n (vec_items rows) w m.1,
-                                (
-                                  (λ k t p. w.ready.tabled k t (omega (arith, p.0, m.1)) p.1),
-                                  (all_clear (vec_items marks) 256 clear, tt),
-                                ),
-                              ),
-                            ),
-                          ),
-                        ),
-                      ),
-                    ),
-                  ),
-                ),
-              ),
-            ),
-          ),
-        ),
-      ),
-    )
+    let clear = c.in_ok-marks.ensures in
+    record {
+      few = c.requires.limits.few_claims;
+      named = c.requires.named;
+      near_long = c.in_ok-near.ensures.0;
+      indexed = c.in_ok-near.ensures.1;
+      list_long = c.in_ok-list.ensures;
+      merges_long = m.0;
+      steps_long = steps.ok.0 ∙ w.ready.steps_long;
+      rows_long = rows.ok.0 ∙ w.ready.rows_long;
+      marks_long = marks.ok.0 ∙ ap length clear ∙ length-replicate 256 false;
+      short = omega arith;
+      below = refl;
+      distinct = refl;
+      rising = λ j k a b. let z : j ≡ k = omega arith in omega (arith, ap (λ (i : ℕ). get_or merges i 0) z);
+      logged = logged ts claims list merges (vec_items steps) n (vec_items rows) w m.1;
+      tabled = λ k t p. w.ready.tabled k t (omega (arith, p.0, m.1)) p.1;
+      clear = all_clear (vec_items marks) 256 clear;
+    }
 
 pub returns : goal.returns
 returns c =

@@ -46,4 +46,13 @@ invariant_of-self c =
     let left : Proper (length claims) (vec_items c.push_reserved.new.self) = subst (Proper (length claims)) (sym c.push_reserved.ensures.items) (longer (goal.at.invariant_of-self c).After-bound_of) in
     let says = c.add.ensures.list ∙ ap (λ (z : List Bound). z ++ c.bound_of.result ∷ []) s.says ∙ ap (λ (b : Bound). said claims (vec_items s.list) ++ b ∷ []) c.bound_of.ensures
     ∙ sym (map_push (bound_of claims) (vec_items s.list) c.args.l) ∙ ap (said claims) (sym c.push_reserved.ensures.items) in
-    (s.few, (subst (λ m. Named m claims) (sym c.add.ensures.same.0) s.named, (s.range, (omega (arith, c.push_reserved.ensures.capacity, s.room), (c.add.ensures.same.1 ∙ s.most, (left.below, (left.apart_claims, (says, tt))))))))
+    record {
+      few = s.few;
+      named = subst (λ m. Named m claims) (sym c.add.ensures.same.0) s.named;
+      range = s.range;
+      room = omega (arith, c.push_reserved.ensures.capacity, s.room);
+      most = c.add.ensures.same.1 ∙ s.most;
+      below = left.below;
+      distinct = left.apart_claims;
+      says = says;
+    }
