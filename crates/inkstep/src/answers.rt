@@ -1,8 +1,6 @@
 //! The answers of a theory to the calls of a book, one line for each.
 use book::{Asked, Call};
 use std::alloc::{AllocError, Global};
-use std::fmt;
-use std::fmt::Write;
 use theory::{Found, Literal, Refusal, Theory, Trial};
 
 /// Why there are no answers.
@@ -18,21 +16,15 @@ impl From<AllocError> for Unanswered {
     }
 }
 
-impl From<fmt::Error> for Unanswered {
-    fn from(_e: fmt::Error) -> Unanswered {
-        Unanswered::NoMemory
-    }
-}
-
 /// The line of a call that answers no more than whether it was refused.
-fn plain(out: &mut String, call: Call, told: Result<(), Refusal>) -> fmt::Result {
+fn plain(out: &mut String, call: Call, told: Result<(), Refusal>) -> Result<(), AllocError> {
     match told {
         Ok(()) => writeln!(out, "{call}: ok"),
         Err(refusal) => refused(out, call, refusal),
     }
 }
 
-fn refused(out: &mut String, call: Call, refusal: Refusal) -> fmt::Result {
+fn refused(out: &mut String, call: Call, refusal: Refusal) -> Result<(), AllocError> {
     let number = refusal.number();
     writeln!(out, "{call}: refused {number}")
 }

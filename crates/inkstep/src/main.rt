@@ -6,6 +6,7 @@ use book::{Asked, Book, Unread};
 use equality::make;
 use std::alloc::AllocError;
 use std::io::Read;
+use std::process::ExitCode;
 use std::{env, fs, io};
 use theory::{Theory, Unmade};
 
@@ -123,7 +124,15 @@ fn run(rt: &HostRuntime, words: &[String]) -> Result<(), Failed> {
     Ok(())
 }
 
-fn main(rt: HostRuntime) -> Result<(), Failed> {
-    let words: Vec<String> = env::args(&rt)?.skip(1).collect(rt.alloc())?;
-    run(&rt, &words)
+fn start(rt: &HostRuntime) -> Result<(), Failed> {
+    let words: Vec<String> = env::args(rt)?.skip(1).collect(rt.alloc())?;
+    run(rt, &words)
+}
+
+/// What is wrong is written where it is found, so a failed run only has its status.
+fn main(rt: HostRuntime) -> ExitCode {
+    match start(&rt) {
+        Ok(()) => ExitCode::SUCCESS,
+        Err(Failed) => ExitCode::FAILURE,
+    }
 }

@@ -3,6 +3,7 @@ use crate::calls::*;
 use difference::Bound;
 use distance::make;
 use std::alloc::{AllocError, Global};
+use std::test::Fail;
 use theory::{Literal, Term};
 
 /// The claim that `term` minus `base` is at most `most`.
