@@ -1,4 +1,6 @@
 //! The calls at full size. Alone it prints what they find; `bench time` prints how long they take as well.
+#![tactic(auto)]
+
 use anyhow::anyhow;
 use congruence::Claim;
 use equality::make;

@@ -16,18 +16,16 @@ use Rattle.book.specs.declared.line.Said.{Said}
 use Rattle.book.specs.declared.line.Said.TheVariants.{Theory as theory, Term as term, Claim as claim, Call as call}
 use Rattle.book.specs.declared.reading.Stage.{Stage}
 use Rattle.book.specs.declared.reading.Stage.TheVariants.{Start, Terms, Claims, Calls}
-use Rattle.book.specs.declared.scan.Mark.TheVariants.{Newline}
 use Rattle.book.specs.declared.word.Name.{Name}
 use Rattle.book.specs.declared.word.Name.TheVariants.{Kind as kind, Ask as ask, Equality}
 use Rattle.book.specs.declared.word.Kind.TheVariants.{Theory, Term, Claim, Call}
 use Rattle.book.specs.declared.word.Ask.{Ask}
 use Rattle.book.specs.declared.word.Ask.TheVariants.{Assert, TakeBack, Query, Write, Trial, Close}
-use Rattle.book.specs.declared.word.Word.{Word}
 use Rattle.book.specs.declared.word.Word.TheVariants.{Known, Number}
 use Rattle.book.specs.Words.{spelling, word_of, words_of}
-use Rattle.book.specs.Lines.{and_then, short_of, shorts_of, first_two, place_of, called_by, said_by}
+use Rattle.book.specs.Lines.{and_then, short_of, shorts_of, place_of, called_by, said_by}
 use Rattle.book.specs.Books.{Contents, adds, stage_after, claim_at, call_at, turn, ended, reads}
-use Rattle.book.specs.Canonical.{spaced, text_of, theory_line, term_line, claim_line, length_word, call_line, book_lines, TermFits, ClaimFits, LengthFits, CallFits, numbered, ReadsBack}
+use Rattle.book.specs.Canonical.{spaced, theory_line, term_line, claim_line, length_word, call_line, book_lines, TermFits, ClaimFits, LengthFits, CallFits, numbered, ReadsBack}
 use Rattle.book.proofs.Shorts.{two, shorts_nil, shorts_cons, cons, term_made}
 use Rattle.book.proofs.Spaced.{Plain, words_spaced, line_pieces}
 use Rattle.book.proofs.Turns.{turn_done, reads_nil, reads_more}

@@ -1,5 +1,5 @@
 -- One line of a book more. Assumes nothing.
-use Rattle.std.proofs.Common.{◌≡◌, ℕ, ◌+◌, max, List, [], ◌∷◌, IsErrAnd, Ok, Err, Result, sym, refl, ap, ◌∙◌, arith}
+use Rattle.std.proofs.Common.{◌≡◌, ℕ, ◌+◌, List, [], ◌∷◌, IsErrAnd, Ok, Err, Result, sym, refl, ap, ◌∙◌, arith}
 use Rattle.book.specs.declared.fault.Fault.{Fault}
 use Rattle.book.specs.declared.fault.Unread.{Unread}
 use Rattle.book.specs.declared.fault.Unread.TheVariants.{Fault as Faulty, NoMemory}

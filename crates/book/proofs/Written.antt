@@ -1,5 +1,5 @@
 -- What written names and numbers are as words. Assumes nothing.
-use Rattle.std.proofs.Common.{◌≡◌, ℕ, ◌^◌, ◌<◌, ◌≤◌, Bool, true, false, cond, ◌&&◌, eqb, leb, List, [], ◌∷◌, map, length, Some, None, decimal, sym, refl, ap, ◌∙◌, arith, rules}
+use Rattle.std.proofs.Common.{◌≡◌, ℕ, ◌^◌, ◌<◌, ◌≤◌, true, false, cond, eqb, leb, List, [], ◌∷◌, map, length, Some, None, decimal, sym, refl, ap, ◌∙◌, arith, rules}
 use Rattle.std.specs.List.{AllByRecursion as All}
 use Rattle.std.specs.Str.{bytes_eq}
 use Rattle.std.proofs.lemmas.Fmt.{decimal_nonempty, digits_decimal, digits_value-decimal}
@@ -9,7 +9,6 @@ use Rattle.book.specs.declared.word.Name.{Name}
 use Rattle.book.specs.declared.word.Name.TheVariants.{Kind as kind, Ask as ask, Equality}
 use Rattle.book.specs.declared.word.Kind.TheVariants.{Theory, Term, Claim, Call}
 use Rattle.book.specs.declared.word.Ask.TheVariants.{Assert, TakeBack, Query, Write, Trial, Close}
-use Rattle.book.specs.declared.word.Word.{Word}
 use Rattle.book.specs.declared.word.Word.TheVariants.{Known, Number, Other}
 use Rattle.book.specs.Words.{spelling, first_spelled, name_of, digit, digits, value_after, held, sized, number_of, name_or, word_of}
 use Rattle.book.proofs.Numbers.{held_within}

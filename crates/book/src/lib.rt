@@ -1,4 +1,6 @@
 //! Books: texts that give a table of terms and claims, and the calls to make on their theory.
+#![tactic(auto)]
+
 ghost use Rattle.book.specs.Canonical.{ReadsBack};
 
 pub mod contents;

@@ -1,12 +1,11 @@
 -- A log of merges: what its labels keep, and that settling ends with a fit. Assumes nothing.
-use Rattle.std.proofs.Common.{◌≡◌, ℕ, zero, suc, ◌+◌, ◌<◌, ◌≤◌, min, max, Bool, true, false, cond, not, ◌&&◌, ◌||◌, eqb, ◌⊎◌, List, [], ◌∷◌, length, get_or, Some, None, Option, sym, refl, ap, ◌∙◌, subst, inl, inr, ⊎_elim, arith}
-use Rattle.std.proofs.lemmas.Bool.{cases_lt, cases_eq, cases_Bool, eq-eqb, ne_eqb, eqb-true, eqb-false, cond-true, cond-false, and_parts, and_from, and_cases, not-true, not-false, not_from_false}
+use Rattle.std.proofs.Common.{◌≡◌, ℕ, zero, suc, ◌+◌, ◌<◌, ◌≤◌, Bool, true, false, cond, not, ◌&&◌, eqb, ◌⊎◌, List, [], ◌∷◌, length, Some, None, Option, sym, refl, ap, ◌∙◌, subst, inl, inr, ⊎_elim, arith}
+use Rattle.std.proofs.lemmas.Bool.{cases_lt, cases_eq, cases_Bool, eq-eqb, ne_eqb, eqb-true, eqb-false, cond-true, cond-false, and_parts, and_from, not-true, not_from_false}
 use Rattle.theory.specs.declared.term.Term.{Term}
-use Rattle.congruence.specs.declared.claim.Claim.{Claim}
 use Rattle.congruence.specs.declared.step.Step.{Step}
 use Rattle.congruence.specs.declared.step.Reason.{Reason}
-use Rattle.congruence.specs.declared.step.Reason.TheVariants.{Congruence, Asserted}
-use Rattle.congruence.specs.Table.{at, arg, Lower}
+use Rattle.congruence.specs.declared.step.Reason.TheVariants.{Congruence}
+use Rattle.congruence.specs.Table.{at, arg}
 use Rattle.congruence.specs.Congruence.{Congruent, Fit}
 use Rattle.congruence.specs.Merges.{relabel, label, merge, alike, twin_at, twin, merge_on, sweep, settle, join}
 use Rattle.congruence.specs.Log.{RestsOn, Rightful, Logged}

@@ -1,13 +1,13 @@
 -- What is needed to join two terms joins them. Assumes nothing.
-use Rattle.std.proofs.Common.{◌≡◌, ℕ, zero, suc, ◌+◌, ◌<◌, ◌≤◌, Bool, true, false, cond, not, ◌&&◌, ◌||◌, eqb, ◌⊎◌, List, [], ◌∷◌, length, get_or, sym, refl, ap, ◌∙◌, subst, inl, inr, ⊎_elim, arith}
-use Rattle.std.proofs.lemmas.Bool.{cases_eq, cases_Bool, eq-eqb, ne_eqb, eqb-true, eqb-false, cond-true, cond-false, or_cases, or_left, or_right}
+use Rattle.std.proofs.Common.{◌≡◌, ℕ, ◌<◌, Bool, true, false, cond, ◌||◌, eqb, ◌⊎◌, List, [], ◌∷◌, length, sym, refl, ◌∙◌, subst, inl, inr, ⊎_elim, arith}
+use Rattle.std.proofs.lemmas.Bool.{cases_eq, eq-eqb, eqb-true, eqb-false, or_cases, or_left, or_right}
 use Rattle.theory.specs.declared.term.Term.{Term}
 use Rattle.congruence.specs.declared.step.Step.{Step}
 use Rattle.congruence.specs.declared.step.Reason.{Reason}
 use Rattle.congruence.specs.declared.step.Reason.TheVariants.{Congruence, Asserted}
 use Rattle.congruence.specs.Table.{at, arg, Lower}
 use Rattle.congruence.specs.Congruence.{Fit, Joined, by_given, by_same, by_sym, by_trans, by_cong}
-use Rattle.congruence.specs.Merges.{relabel, label, any_below, rests, crosses, needed}
+use Rattle.congruence.specs.Merges.{relabel, label, rests, crosses, needed}
 use Rattle.congruence.specs.Log.{RestsOn, Rightful, Logged}
 use Rattle.congruence.proofs.Searches.{any_from, any_in}
 use Rattle.congruence.proofs.Closing.{relabel_here, relabel_other}

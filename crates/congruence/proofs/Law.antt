@@ -1,23 +1,22 @@
 -- The law of a theory, for equality. Assumes nothing.
-use Rattle.std.proofs.Common.{◌≡◌, ℕ, zero, suc, ◌+◌, ◌-◌, ◌*◌, ◌/◌, ◌%◌, ◌<◌, ◌≤◌, Bool, true, false, cond, not, ◌&&◌, ◌||◌, eqb, ltb, ◌⊎◌, List, [], ◌∷◌, length, get_or, ℤ, pos, ◌≤ℤ◌, ◌<ℤ◌, Some, None, Option, sym, refl, ap, ◌∙◌, subst, inl, inr, ⊎_elim, add-one, arith}
+use Rattle.std.proofs.Common.{◌≡◌, ℕ, zero, suc, ◌+◌, ◌%◌, ◌<◌, ◌≤◌, Bool, true, false, cond, not, ◌||◌, eqb, ◌⊎◌, List, [], ◌∷◌, length, get_or, ℤ, pos, Some, None, Option, sym, refl, ap, ◌∙◌, subst, inl, inr, ⊎_elim, add-one, arith}
 use Rattle.std.proofs.lemmas.Int.{ints, by_lt_z}
-use Rattle.std.proofs.lemmas.Bool.{cases_eq, cases_Bool, eq-eqb, ne_eqb, eqb-true, eqb-false, ltb-true, cond-true, cond-false, and_parts, and_cases, and_from, or_cases, or_left, or_right, not-true, not_from_false}
+use Rattle.std.proofs.lemmas.Bool.{cases_eq, eq-eqb, ne_eqb, eqb-true, eqb-false, and_parts, and_from, or_cases, or_left, or_right, not-true, not_from_false}
 use Rattle.std.specs.List.{AllByRecursion as All}
 use Rattle.theory.specs.declared.term.Term.{Term}
 use Rattle.congruence.specs.declared.claim.Claim.{Claim}
 use Rattle.congruence.specs.declared.step.Step.{Step}
 use Rattle.congruence.specs.declared.step.Reason.{Reason}
-use Rattle.congruence.specs.declared.step.Reason.TheVariants as Reason
-use Rattle.theory.specs.Literals.{claim, complement, has, Proper}
-use Rattle.theory.specs.Meaning.{Answer, possible, impossible, Meaning, Rising, Lawful}
+use Rattle.theory.specs.Literals.{claim, complement, Proper}
+use Rattle.theory.specs.Meaning.{possible, impossible, Rising}
 use Rattle.congruence.specs.Table.{at, arg, Lower}
-use Rattle.congruence.specs.Congruence.{Congruent, Fit, Joined}
-use Rattle.congruence.specs.Merges.{when, first, label, pair_at, pair_of, settle, join, absorb, log_at, log_of, needed, listed}
-use Rattle.congruence.specs.Equality.{num, Says, clashes, clash, core, answer_of, row, equality, Named, Asserts, Asserted, Contradicted, Labelled, OneDenial, Standing, Stands}
-use Rattle.congruence.specs.Log.{RestsOn, Rightful, Logged, Formed}
+use Rattle.congruence.specs.Congruence.{Fit, Joined}
+use Rattle.congruence.specs.Merges.{when, label, pair_at, pair_of, settle, join, absorb, log_at, log_of, needed}
+use Rattle.congruence.specs.Equality.{num, Says, clashes, clash, core, answer_of, row, Named, Asserts, Asserted, Contradicted, Labelled, OneDenial, Stands}
+use Rattle.congruence.specs.Log.{RestsOn, Logged, Formed}
 use Rattle.theory.proofs.Claims.{proper_at}
 use Rattle.congruence.proofs.Searches.{found, not_found, when_some, when_none, listed_rises, listed_all, listed_has, listed_only, row_long, row_at}
-use Rattle.congruence.proofs.Closing.{Settled, settles, joins, roots_few, label_low, label_root}
+use Rattle.congruence.proofs.Closing.{settles, joins, roots_few, label_low, label_root}
 use Rattle.congruence.proofs.Explaining.{complete, widen, At, explained, needed_asserted}
 
 -- ---- a literal and its complement

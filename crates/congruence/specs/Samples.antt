@@ -1,5 +1,5 @@
 -- Sample lists over small tables. Assumes nothing.
-use Rattle.std.specs.Prelude.{◌≡◌, ℕ, List, [], ◌∷◌, pos}
+use Rattle.std.specs.Prelude.{◌≡◌, ℕ, [], ◌∷◌, pos}
 use Rattle.theory.specs.declared.term.Term.{Term}
 use Rattle.theory.specs.Meaning.{possible, impossible, Meaning}
 use Rattle.congruence.specs.declared.claim.Claim.{Claim}

@@ -1,5 +1,5 @@
 -- A table of term records. Assumes nothing.
-use Rattle.std.specs.Prelude.{ℕ, ◌<◌, ◌≤◌, List, [], ◌∷◌, length, slice_index, slice_index_or}
+use Rattle.std.specs.Prelude.{ℕ, ◌<◌, ◌≤◌, List, [], length, slice_index, slice_index_or}
 use Rattle.theory.specs.declared.term.Term.{Term}
 
 -- the argument numbered `i` of a term

@@ -1,5 +1,5 @@
 -- A queue that has each bound that a row breaks, none twice, as a term is lowered. Assumes nothing.
-use Rattle.std.proofs.Common.{◌≡◌, ℕ, zero, suc, ◌+◌, ◌-◌, ◌<◌, ◌≤◌, Bool, true, false, cond, not, ◌&&◌, ◌||◌, eqb, ◌⊎◌, List, [], ◌∷◌, ◌++◌, length, set, ℤ, pos, ◌≤ℤ◌, ◌<ℤ◌, filter, sym, refl, ap, ◌∙◌, ⊎_elim, arith}
+use Rattle.std.proofs.Common.{◌≡◌, ℕ, zero, suc, ◌+◌, ◌-◌, ◌<◌, ◌≤◌, Bool, true, false, cond, not, ◌&&◌, ◌||◌, eqb, List, [], ◌∷◌, ◌++◌, length, set, ℤ, pos, ◌≤ℤ◌, ◌<ℤ◌, filter, sym, refl, ap, ◌∙◌, ⊎_elim, arith}
 use lib.Signed.{lt_z}
 use Rattle.std.specs.List.{AllByRecursion as All}
 use Rattle.std.proofs.lemmas.Int.{ints}

@@ -1,4 +1,5 @@
 //! Distances between terms, as a theory.
+#![tactic(auto)]
 
 pub(crate) mod check;
 pub(crate) mod excess;

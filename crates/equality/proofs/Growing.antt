@@ -1,7 +1,7 @@
 -- A row of merges that grows, with its labels. Assumes nothing.
-use Rattle.std.proofs.Common.{◌≡◌, ℕ, zero, suc, ◌+◌, ◌-◌, ◌*◌, ◌%◌, ◌<◌, ◌≤◌, min, max, Bool, cond, eqb, List, [], ◌∷◌, length, get_or, set, Some, None, Option, sym, refl, ap, ◌∙◌, subst, ⊎_elim, add-one, arith}
+use Rattle.std.proofs.Common.{◌≡◌, ℕ, zero, suc, ◌+◌, ◌-◌, ◌*◌, ◌%◌, ◌<◌, ◌≤◌, min, max, eqb, List, [], ◌∷◌, length, get_or, set, Some, None, Option, sym, refl, ap, ◌∙◌, subst, ⊎_elim, add-one, arith}
 use Rattle.std.proofs.lemmas.Bool.{cases_eq, eq-eqb, ne_eqb, cond-true, cond-false}
-use Rattle.std.proofs.lemmas.List.{length-set, get_or-set_same, get_or-set_other}
+use Rattle.std.proofs.lemmas.List.{get_or-set_same, get_or-set_other}
 use Rattle.theory.specs.declared.term.Term.{Term}
 use Rattle.congruence.specs.declared.claim.Claim.{Claim}
 use Rattle.congruence.specs.declared.step.Step.{Step}
@@ -10,7 +10,7 @@ use Rattle.congruence.specs.declared.step.Reason.TheVariants.{Congruence, Assert
 use Rattle.congruence.specs.Table.{Lower}
 use Rattle.congruence.specs.Merges.{relabel, label, merge, twin, merge_on, pass, sweep, settle, join, pair_of, absorb}
 use Rattle.congruence.specs.Log.{RestsOn, Formed}
-use Rattle.congruence.proofs.Closing.{roots, roots_few, roots_some, merge_falls, merged, label_low, label_root, Pending, twin_some, settle_still}
+use Rattle.congruence.proofs.Closing.{roots, roots_few, roots_some, merge_falls, merged, label_low, label_root}
 use Rattle.equality.specs.Logs.{step_at, until, label_at, cell, Tabled, Ready, Ran}
 use Rattle.equality.proofs.Twins.{twins_same}
 

@@ -1,5 +1,5 @@
 -- What the state keeps, over its parts: one literal more, or fewer. Assumes nothing.
-use Rattle.std.proofs.Common.{◌≡◌, ℕ, ◌+◌, ◌-◌, ◌*◌, ◌<◌, ◌≤◌, Bool, true, false, List, [], ◌∷◌, ◌++◌, length, get_or, take, set, vec_items, vec_len, sym, refl, ap, ◌∙◌, subst, ⊎_elim, arith, get_or-take}
+use Rattle.std.proofs.Common.{◌≡◌, ℕ, ◌+◌, ◌-◌, ◌*◌, ◌<◌, ◌≤◌, false, List, [], ◌∷◌, ◌++◌, length, get_or, take, set, vec_items, sym, ap, ◌∙◌, subst, ⊎_elim, arith, get_or-take}
 use Rattle.std.proofs.lemmas.Bool.{cases_eq}
 use Rattle.std.proofs.lemmas.List.{length-set, get_or-set_same, get_or-set_other, take_more_set, take-take, length-take-le, length_push, get_or_default}
 use Rattle.theory.specs.declared.term.Term.{Term}
@@ -7,12 +7,12 @@ use Rattle.theory.specs.Literals.{claim, names, Proper}
 use Rattle.theory.proofs.Claims.{proper_push, proper_take, proper_few, proper_at}
 use Rattle.congruence.specs.declared.claim.Claim.{Claim}
 use Rattle.congruence.specs.declared.step.Step.{Step}
-use Rattle.congruence.specs.Merges.{pair_at, absorb, log_at, log_of}
+use Rattle.congruence.specs.Merges.{absorb, log_at, log_of}
 use Rattle.congruence.specs.Equality.{Named}
 use Rattle.congruence.specs.Log.{Formed}
 use Rattle.congruence.proofs.Law.{formed_at_list, log_at_same, log_at_more}
 use Rattle.equality.specs.declared.state.Equality.{Equality}
-use Rattle.equality.specs.Logs.{until, label_at, cell, Tabled, Ready, Ran}
+use Rattle.equality.specs.Logs.{until, Tabled, Ready, Ran}
 use Rattle.equality.specs.Asked.{Listed}
 
 pub record Held (ts : List Term) (claims : List Claim) (list : List ℕ) (len : ℕ) (merges : List ℕ) (ss : List Step) (rows : List ℕ) : Type 0 where

@@ -1,6 +1,6 @@
 -- Marks that are set while explaining cover just what is needed. Assumes nothing.
-use Rattle.std.proofs.Common.{◌≡◌, ℕ, zero, suc, ◌+◌, ◌<◌, ◌≤◌, Bool, true, false, cond, ◌||◌, eqb, ◌⊎◌, List, [], ◌∷◌, length, get_or, set, sym, refl, ap, ◌∙◌, subst, inl, inr, ⊎_elim, add-one, arith}
-use Rattle.std.proofs.lemmas.Bool.{cases_eq, cases_Bool, eq-eqb, ne_eqb, eqb-true, eqb-false, cond-true, cond-false, or_cases, or_left, or_right}
+use Rattle.std.proofs.Common.{◌≡◌, ℕ, zero, suc, ◌+◌, ◌<◌, ◌≤◌, Bool, true, false, ◌||◌, eqb, List, [], ◌∷◌, length, get_or, set, sym, refl, ap, ◌∙◌, subst, inl, inr, ⊎_elim, add-one, arith}
+use Rattle.std.proofs.lemmas.Bool.{cases_eq, eq-eqb, ne_eqb, eqb-true, cond-true, cond-false, or_cases, or_left, or_right}
 use Rattle.std.proofs.lemmas.List.{length-set, get_or-set_same, get_or-set_other}
 use Rattle.theory.specs.declared.term.Term.{Term}
 use Rattle.congruence.specs.declared.step.Step.{Step}
@@ -10,7 +10,6 @@ use Rattle.congruence.specs.Congruence.{Congruent}
 use Rattle.congruence.specs.Merges.{relabel, label, any_below, rests, crosses, needed}
 use Rattle.congruence.specs.Log.{RestsOn, Rightful, Formed}
 use Rattle.congruence.proofs.Explaining.{met, across, crossed}
-use Rattle.equality.specs.declared.explain.Ends.{Ends}
 use Rattle.equality.specs.Logs.{step_at, until, label_at, cell, Tabled}
 use Rattle.equality.specs.Marked.{Joins, Sides, Covered, basis, Whole, Grown}
 

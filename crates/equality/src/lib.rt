@@ -1,4 +1,5 @@
 //! Equality over a table of terms, as a theory.
+#![tactic(auto)]
 
 pub(crate) mod check;
 pub(crate) mod closure;

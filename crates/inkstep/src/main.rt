@@ -1,4 +1,6 @@
 //! The command-line tool: `inkstep ask FILE` answers the calls of a book.
+#![tactic(auto)]
+
 mod answers;
 
 use answers::{Unanswered, answers};

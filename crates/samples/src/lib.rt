@@ -1,4 +1,6 @@
 //! Worked books and edges of the calls, run as tests.
+#![tactic(auto)]
+
 #[cfg(test)]
 mod calls;
 #[cfg(test)]

@@ -1,4 +1,5 @@
 //! What every theory has: literals, a meaning, the calls with their refusals, and trials.
+#![tactic(auto)]
 
 pub mod literal;
 pub mod refusal;

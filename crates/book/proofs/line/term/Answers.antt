@@ -1,4 +1,4 @@
-use Rattle.std.proofs.Common.{◌≡◌, ◌-◌, length, get_or, take, drop, sym, ap, ◌∙◌, arith, ltb-false, ltb-true}
+use Rattle.std.proofs.Common.{◌-◌, length, get_or, take, drop, sym, ap, ◌∙◌, arith, ltb-false, ltb-true}
 use Rattle.book.specs.declared.word.Kind.TheVariants.{Theory}
 use Rattle.book.specs.declared.word.Name.TheVariants.{Kind as kind}
 use Rattle.book.specs.declared.word.Word.TheVariants.{Known}

@@ -1,4 +1,4 @@
-use Rattle.std.proofs.Common.{◌≡◌, sym, ap, ◌∙◌}
+use Rattle.std.proofs.Common.{ap, ◌∙◌}
 use Rattle.book.specs.Lines.{said_by}
 use Rattle.book.specs.Books.{contents_of}
 use Rattle.book.proofs.Turns.{tells_fault, turn_said, turn_stage, turn_done}

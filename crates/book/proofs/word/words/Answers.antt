@@ -1,5 +1,4 @@
-use Rattle.std.proofs.Common.{◌≡◌, ◌<◌, ◌++◌, length, vec_items, sym, ap, ◌∙◌, subst, append-nil, arith, true-eqb, false-eqb}
-use Rattle.std.proofs.lemmas.Slice.{pushed}
+use Rattle.std.proofs.Common.{◌<◌, ◌++◌, length, vec_items, sym, ap, ◌∙◌, append-nil, arith, true-eqb, false-eqb}
 use Rattle.book.specs.declared.scan.Mark.TheVariants.{Blank}
 use Rattle.book.specs.Words.{words_among}
 use Rattle.book.proofs.Cuts.{after_less, words_none, words_put, words_keep}

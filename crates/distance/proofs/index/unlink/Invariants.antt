@@ -1,4 +1,4 @@
-use Rattle.std.proofs.Common.{◌-◌, ◌≤◌, length}
+use Rattle.std.proofs.Common.{◌≤◌, length}
 use Rattle.distance.specs.Index.{Heads}
 use Rattle.distance.proofs.index.unlink.Given as goal
 

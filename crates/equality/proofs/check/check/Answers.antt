@@ -1,6 +1,6 @@
 use Rattle.std.proofs.Common.{sym, ◌∙◌, arith}
 use Rattle.std.proofs.lemmas.Bool.{true≢false}
-use Rattle.equality.specs.Checks.{Limits, Barred, past_limit, not_lower, no_term}
+use Rattle.equality.specs.Checks.{past_limit, not_lower, no_term}
 use Rattle.equality.proofs.check.check.Goals as goal
 use Rattle.equality.proofs.check.check.Goals.{then-terms-gt256-via-then-terms-gt256, then-terms-gt256-via-else-terms-gt256+then-claims-gt128, then-terms-gt256-via-else-terms-gt256+else-claims-gt128+then-not-few_arguments}
 

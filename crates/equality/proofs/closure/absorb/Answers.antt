@@ -1,9 +1,9 @@
-use Rattle.std.proofs.Common.{◌≡◌, ℕ, ◌+◌, ◌*◌, ◌<◌, ◌≤◌, List, ◌∷◌, length, sym, refl, ap, ◌∙◌, subst, arith}
+use Rattle.std.proofs.Common.{◌≡◌, ℕ, ◌+◌, ◌*◌, ◌<◌, ◌≤◌, List, length, sym, ap, ◌∙◌, arith}
 use Rattle.theory.specs.declared.term.Term.{Term}
 use Rattle.congruence.specs.declared.step.Step.{Step}
 use Rattle.congruence.specs.declared.step.Reason.TheVariants.{Asserted}
-use Rattle.congruence.specs.Merges.{label, merge, settle, pair_of}
-use Rattle.equality.specs.Logs.{until, label_at, cell, Tabled, Ready, Ran}
+use Rattle.congruence.specs.Merges.{settle, pair_of}
+use Rattle.equality.specs.Logs.{until, label_at, cell, Tabled, Ready}
 use Rattle.equality.proofs.Growing.{merges_room, merge_room, ran_on, ran_as, ran_still, ran_merge, absorb_odd, absorb_same, absorb_new}
 use Rattle.equality.proofs.closure.absorb.Goals as goal
 

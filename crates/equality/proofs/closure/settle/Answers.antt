@@ -1,4 +1,4 @@
-use Rattle.std.proofs.Common.{◌≡◌, ℕ, ◌-◌, length, sym, refl, ap, ◌∙◌, subst, arith, rules}
+use Rattle.std.proofs.Common.{◌≡◌, ℕ, ◌-◌, length, sym, refl, ap, ◌∙◌, subst, arith}
 use Rattle.congruence.specs.Merges.{sweep, settle}
 use Rattle.congruence.proofs.Closing.{settle_still}
 use Rattle.equality.specs.Logs.{until, Ran}

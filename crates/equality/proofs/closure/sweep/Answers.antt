@@ -1,5 +1,4 @@
-use Rattle.std.proofs.Common.{◌≡◌, sym, refl, ap, ◌∙◌, subst, arith, rules}
-use Rattle.congruence.specs.Merges.{pass, sweep}
+use Rattle.congruence.specs.Merges.{sweep}
 use Rattle.equality.specs.Logs.{until}
 use Rattle.equality.proofs.Growing.{ran_still, ran_on, ran_as, sweep_none, sweep_more}
 use Rattle.equality.proofs.closure.sweep.Goals as goal

@@ -1,13 +1,13 @@
 -- The two halves of the way to the merge at which the terms met are marked first, then what the merge rests on, then the merge.
-use Rattle.std.proofs.Common.{◌≡◌, ℕ, ◌+◌, ◌*◌, ◌<◌, ◌≤◌, Bool, true, false, ◌||◌, List, length, set, sym, refl, ap, ◌∙◌, subst, arith}
+use Rattle.std.proofs.Common.{◌≡◌, ℕ, ◌+◌, ◌<◌, ◌≤◌, Bool, true, ◌||◌, List, length, set, sym, ap, ◌∙◌, arith}
 use Rattle.theory.specs.declared.term.Term.{Term}
 use Rattle.congruence.specs.declared.step.Step.{Step}
-use Rattle.congruence.specs.declared.step.Reason.TheVariants.{Congruence, Asserted}
-use Rattle.congruence.specs.Table.{at, arg, Lower}
+use Rattle.congruence.specs.declared.step.Reason.TheVariants.{Congruence}
+use Rattle.congruence.specs.Table.{at, arg}
 use Rattle.congruence.specs.Merges.{any_below, needed}
 use Rattle.congruence.specs.Log.{Formed}
 use Rattle.equality.specs.declared.explain.Ends.{Ends}
-use Rattle.equality.specs.Logs.{until, step_at, label_at, cell, Tabled}
+use Rattle.equality.specs.Logs.{until, step_at, cell, Tabled}
 use Rattle.equality.specs.Marked.{Joins, Sides, Grown, basis}
 use Rattle.equality.proofs.Growing.{merges_room}
 use Rattle.equality.proofs.Marking.{joins_by, formed_at, formed_more, needed_none, needed_met, grown_none, grown_trans, grown_as, grown_marked, grown_mark, set_kept, covered_kept, or_same, any_more, asserted_covers, congruent_basis, congruent_args}

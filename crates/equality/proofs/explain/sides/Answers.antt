@@ -1,4 +1,4 @@
-use Rattle.std.proofs.Common.{◌≡◌, sym, ◌∙◌, arith}
+use Rattle.std.proofs.Common.{sym, ◌∙◌, arith}
 use Rattle.equality.proofs.Marking.{sides_same, sides_other, formed_at}
 use Rattle.equality.proofs.explain.sides.Goals as goal
 

@@ -1,4 +1,4 @@
-use Rattle.std.proofs.Common.{◌≡◌, ℕ, ◌<◌, Bool, false, ◌&&◌, ◌||◌, length, get_or, sym, refl, ap, ◌∙◌, arith}
+use Rattle.std.proofs.Common.{◌≡◌, ℕ, Bool, false, ◌&&◌, ◌||◌, get_or, sym, ap, ◌∙◌, arith}
 use Rattle.equality.specs.Logs.{step_at}
 use Rattle.equality.specs.Asked.{asserted, covers}
 use Rattle.equality.proofs.Marking.{any_more}

@@ -1,4 +1,4 @@
-use Rattle.std.proofs.Common.{◌≡◌, ℕ, Bool, length, sym, refl, ap, ◌∙◌, arith}
+use Rattle.std.proofs.Common.{◌≡◌, ℕ, Bool, length, sym, ap, ◌∙◌, arith}
 use Rattle.congruence.specs.Merges.{first, when}
 use Rattle.equality.specs.Logs.{cell}
 use Rattle.equality.proofs.Growing.{merges_room}

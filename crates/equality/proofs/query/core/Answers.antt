@@ -1,4 +1,4 @@
-use Rattle.std.proofs.Common.{◌≡◌, ℕ, ◌||◌, eqb, List, length, get_or, sym, refl, ap, ◌∙◌, subst, arith}
+use Rattle.std.proofs.Common.{◌||◌, eqb, List, length, get_or, sym, ap, ◌∙◌}
 use Rattle.theory.specs.Calls.{over}
 use Rattle.congruence.specs.declared.step.Step.{Step}
 use Rattle.congruence.specs.Merges.{listed, needed, pair_of, label}

@@ -1,4 +1,4 @@
-use Rattle.std.proofs.Common.{◌≡◌, ℕ, ◌+◌, ◌<◌, ◌≤◌, Bool, List, length, set, sym, refl, ap, ◌∙◌, subst, arith}
+use Rattle.std.proofs.Common.{◌≡◌, ℕ, Bool, List, sym, ◌∙◌, subst}
 use Rattle.equality.proofs.Listing.{Partly, partly_start, partly_put, partly_skip, partly_end}
 use Rattle.equality.proofs.query.write_core.Goals as goal
 use Rattle.equality.proofs.query.write_core.Goals.{then-in_core, else-in_core}

@@ -1,4 +1,4 @@
-use Rattle.std.proofs.Common.{◌≡◌, ℕ, ◌<◌, ◌≤◌, get_or, take, drop, pos}
+use Rattle.std.proofs.Common.{◌≡◌, take, drop, pos}
 use Rattle.congruence.specs.Equality.{row}
 use Rattle.equality.specs.Logs.{cell}
 use Rattle.equality.proofs.query.write_labels.Given as goal

@@ -1,4 +1,4 @@
-use Rattle.std.proofs.Common.{◌≡◌, ◌+◌, ◌-◌, ◌*◌, ◌<◌, List, ◌++◌, length, drop, ℤ, vec_items, sym, ap, ◌∙◌, arith, rules}
+use Rattle.std.proofs.Common.{◌≡◌, ◌-◌, ◌*◌, ◌<◌, List, ◌++◌, length, drop, ℤ, vec_items, sym, ap, ◌∙◌, arith, rules}
 use Rattle.theory.specs.Calls.{fit_says, fit_over}
 use Rattle.difference.specs.Settling.{Outcome}
 use Rattle.difference.specs.Distance.{answer_of, row_of}

@@ -1,4 +1,4 @@
-use Rattle.std.proofs.Common.{◌≡◌, ℕ, ◌<◌, ◌≤◌, Bool, false, List, length, get_or, replicate, vec_items, sym, refl, ap, ◌∙◌, subst, ⊎_elim, arith}
+use Rattle.std.proofs.Common.{◌≡◌, ℕ, ◌<◌, ◌≤◌, Bool, false, List, length, get_or, replicate, vec_items, sym, refl, ap, ◌∙◌, ⊎_elim, arith}
 use lib.ListN.{get_or-replicate, length-replicate}
 use Rattle.std.proofs.lemmas.Bool.{cases_lt}
 use Rattle.std.proofs.lemmas.List.{get_or_past}
@@ -7,7 +7,7 @@ use Rattle.congruence.specs.declared.claim.Claim.{Claim}
 use Rattle.congruence.specs.declared.step.Step.{Step}
 use Rattle.congruence.specs.Merges.{log_at}
 use Rattle.congruence.proofs.Law.{log_at_none, stands}
-use Rattle.equality.specs.Logs.{until, label_at, cell, Closed}
+use Rattle.equality.specs.Logs.{until, Closed}
 use Rattle.equality.proofs.state.make.build.Goals as goal
 
 all_clear : (xs : List Bool) (n : ℕ) → xs ≡ replicate n false → (k : ℕ) → get_or xs k false ≡ false

@@ -1,7 +1,7 @@
-use Rattle.std.proofs.Common.{◌≡◌, length, take, vec_items, sym, refl, ap, ◌∙◌, arith}
+use Rattle.std.proofs.Common.{take, vec_items, sym, refl, ◌∙◌, arith}
 use Rattle.std.proofs.lemmas.List.{take-take}
 use Rattle.theory.proofs.Lists.{taken_back}
-use Rattle.equality.proofs.Holding.{Held, held, held_cut, front_long}
+use Rattle.equality.proofs.Holding.{held, held_cut, front_long}
 use Rattle.equality.proofs.state.calls.EqualityTheory.take_back.Goals as goal
 
 pub invariant_of-self : goal.invariant_of-self

@@ -1,4 +1,4 @@
-use Rattle.std.proofs.Common.{◌≡◌, ℕ, ◌+◌, ◌-◌, ◌*◌, ◌<◌, ◌≤◌, List, length, get_or, take, ℤ, pos, None, vec_items, sym, refl, ap, ◌∙◌, subst, arith}
+use Rattle.std.proofs.Common.{◌≡◌, ℕ, List, length, take, ℤ, pos, None, vec_items, sym, refl, ap, ◌∙◌, arith}
 use Rattle.theory.specs.Calls.{over}
 use Rattle.theory.proofs.Lists.{written}
 use Rattle.congruence.specs.declared.step.Step.{Step}
