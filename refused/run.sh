@@ -4,7 +4,7 @@
 cd "$(dirname "$0")/.." || exit 2
 bad=0
 for e in refused/*.edit; do
-    d=$(mktemp -d) && cp -r crates/theory "$d/theory"
+    d=$(mktemp -d) && mkdir "$d/crates" && cp -r crates/theory "$d/crates/theory" && echo theory: >"$d/crates.txt"
     f=$(sed -n 's/^file: //p' "$e")
     OLD=$(sed -n 's/^old: //p' "$e") NEW=$(sed -n 's/^new: //p' "$e") awk '
         { text = text $0 "\n" }
@@ -13,9 +13,9 @@ for e in refused/*.edit; do
             at = index(text, old)
             if (!at) exit 3
             printf "%s%s%s", substr(text, 1, at - 1), ENVIRON["NEW"], substr(text, at + length(old))
-        }' "crates/theory/$f" >"$d/theory/$f" || { echo "$e: its old text is not in $f"; bad=1; }
+        }' "crates/theory/$f" >"$d/crates/theory/$f" || { echo "$e: its old text is not in $f"; bad=1; }
     w=$(sed -n 's/^error: //p' "$e")
-    if rt check "$d/theory" >"$d/log" 2>&1; then
+    if (cd "$d/crates/theory" && rt check) >"$d/log" 2>&1; then
         echo "$e: NOT REFUSED"
         bad=1
     elif grep -aq "error\[$w\]" "$d/log"; then
