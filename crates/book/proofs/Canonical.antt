@@ -1,7 +1,7 @@
 -- The canonical text of a book means that book. Assumes nothing.
 use Rattle.std.proofs.Common.{◌≡◌, ℕ, ◌+◌, ◌^◌, ◌<◌, ◌≤◌, min, cond, List, [], ◌∷◌, ◌++◌, map, length, take, Some, None, Ok, Err, decimal, Option, Result, sym, refl, ap, ◌∙◌, append_assoc, append-nil, add-zero, arith, length-take}
 use native.Mathlib.Nat.{min-eq_left}
-use Rattle.std.specs.List.{AllByRecursion as All}
+use Rattle.std.specs.List.{AllByRecursion}
 use Rattle.std.proofs.ByRecursion.{All-append}
 use Rattle.std.proofs.lemmas.List.{length-map}
 use Rattle.std.proofs.lemmas.Bool.{lt-ltb}
@@ -36,7 +36,7 @@ use Rattle.book.proofs.Written.{name_word, name_plain, number_plain, number_word
 short_number : (n : ℕ) → n < 65536 → short_of (Number n) ≡ Ok n
 short_number n h = ap (λ t. cond t (Ok n) (Err (TooLarge 65535))) (lt-ltb n 65536 h)
 
-shorts_numbers : (ns : List ℕ) → All (λ n. n < 65536) ns → shorts_of (map Number ns) ≡ Ok ns
+shorts_numbers : (ns : List ℕ) → AllByRecursion (λ n. n < 65536) ns → shorts_of (map Number ns) ≡ Ok ns
 shorts_numbers [] h = shorts_nil
 shorts_numbers (n ∷ ns) h = shorts_cons (Number n) (map Number ns) ∙ ap (λ r. cons r (shorts_of (map Number ns))) (short_number n h.0) ∙ ap (cons (Ok n)) (shorts_numbers ns h.1)
 
@@ -45,7 +45,7 @@ small n h = omega arith
 
 -- ---- what each line says
 
-pub term_plain : (t : TermRecord) → TermFits t → All Plain (term_line t)
+pub term_plain : (t : TermRecord) → TermFits t → AllByRecursion Plain (term_line t)
 term_plain t h = (name_plain (kind Term), (number_plain t.symbol (small _ h.0), numbers_plain (take t.arity t.args) h.3))
 
 term_arity : (t : TermRecord) → TermFits t → t.arity ≡ min (length (map Number (take t.arity t.args))) 255
@@ -66,7 +66,7 @@ term_said t h =
     ∙ ap (λ ws. said_by (Known (kind Term) ∷ Number t.symbol ∷ ws)) (number_words given h.3)
     ∙ sym (term_made (Number t.symbol) (map Number given) t.symbol (sym (short_number t.symbol h.0)) t.arity t.args (term_arity t h) (ap Ok h.2 ∙ ap two (sym (shorts_numbers given h.3))))
 
-pub claim_plain : (k : ClaimRecord) → ClaimFits k → All Plain (claim_line k)
+pub claim_plain : (k : ClaimRecord) → ClaimFits k → AllByRecursion Plain (claim_line k)
 claim_plain k h = (name_plain (kind Claim), (number_plain k.left (small _ h.0), (number_plain k.right (small _ h.1), tt)))
 
 pub claim_said : (k : ClaimRecord) → ClaimFits k → said_by (words_of (spaced (claim_line k))) ≡ Ok (claim k)
@@ -78,11 +78,11 @@ claim_said k h =
     ∙ ap (λ r. and_then r (λ left. and_then (short_of (Number k.right)) (λ right. Ok (claim (record { left = left; right = right }))))) (short_number k.left h.0)
     ∙ ap (λ r. and_then r (λ right. Ok (claim (record { left = k.left; right = right })))) (short_number k.right h.1)
 
-length_plain : (len : Option ℕ) → LengthFits len → All Plain (length_word len)
+length_plain : (len : Option ℕ) → LengthFits len → AllByRecursion Plain (length_word len)
 length_plain None h = tt
 length_plain (Some n) h = (number_plain n (small n h), tt)
 
-pub call_plain : (k : Calling) → CallFits k → All Plain (call_line k)
+pub call_plain : (k : Calling) → CallFits k → AllByRecursion Plain (call_line k)
 call_plain (assert l) h = (name_plain (kind Call), (name_plain (ask Assert), (number_plain l (small l h), tt)))
 call_plain (takeBack k) h = (name_plain (kind Call), (name_plain (ask TakeBack), (number_plain k h, tt)))
 call_plain (query len) h = (name_plain (kind Call), (name_plain (ask Query), length_plain len h))
@@ -95,7 +95,7 @@ place_said a None h = refl
 place_said a (Some n) h = ap (λ w. place_of a (w ∷ [])) (number_word n (small n h)) ∙ ap (λ r. and_then r (λ k. Ok (Some k))) (short_number n h)
 
 -- the words of a call line, from its names on
-call_words : (a : Ask) (ws : List (List ℕ)) → All Plain (spelling (kind Call) ∷ spelling (ask a) ∷ ws) → said_by (words_of (spaced (spelling (kind Call) ∷ spelling (ask a) ∷ ws))) ≡ and_then (called_by a (map word_of ws)) (λ asked. Ok (call asked))
+call_words : (a : Ask) (ws : List (List ℕ)) → AllByRecursion Plain (spelling (kind Call) ∷ spelling (ask a) ∷ ws) → said_by (words_of (spaced (spelling (kind Call) ∷ spelling (ask a) ∷ ws))) ≡ and_then (called_by a (map word_of ws)) (λ asked. Ok (call asked))
 call_words a ws h =
     ap said_by (words_spaced (spelling (kind Call) ∷ spelling (ask a) ∷ ws) h)
     ∙ ap (λ w. said_by (w ∷ word_of (spelling (ask a)) ∷ map word_of ws)) (name_word (kind Call))
@@ -112,7 +112,7 @@ call_said (write len) h = call_words Write (length_word len) (call_plain (write 
 call_said (trial l) h = call_words Trial (decimal l ∷ []) (call_plain (trial l) h) ∙ ap (λ w. asks (called_by Trial (w ∷ []))) (number_word l (small l h)) ∙ ap (λ r. asks (and_then r (λ n. Ok (trial n)))) (short_number l h)
 call_said close h = call_words Close [] (call_plain close h)
 
-theory_plain : All Plain theory_line
+theory_plain : AllByRecursion Plain theory_line
 theory_plain = (name_plain (kind Theory), (name_plain Equality, tt))
 
 theory_said : said_by (words_of (spaced theory_line)) ≡ Ok theory
@@ -129,7 +129,7 @@ turned n s b line said next e g = turn_done n s b line (Ok said) (sym e) said re
 abbrev having : List TermRecord → List ClaimRecord → List Asked → Contents
 having ts cs ks = record { terms = ts; claims = cs; calls = ks }
 
-reads_terms : (ts : List TermRecord) (n : ℕ) (done : List TermRecord) (rest : List (List (List ℕ))) → All TermFits ts → reads n Terms (having done [] []) (map spaced (map term_line ts ++ rest)) ≡ reads (n + length ts) Terms (having (done ++ ts) [] []) (map spaced rest)
+reads_terms : (ts : List TermRecord) (n : ℕ) (done : List TermRecord) (rest : List (List (List ℕ))) → AllByRecursion TermFits ts → reads n Terms (having done [] []) (map spaced (map term_line ts ++ rest)) ≡ reads (n + length ts) Terms (having (done ++ ts) [] []) (map spaced rest)
 reads_terms [] n done rest h = ap (λ k. reads k Terms (having done [] []) (map spaced rest)) (sym (add-zero n)) ∙ ap (λ ts. reads (n + 0) Terms (having ts [] []) (map spaced rest)) (sym (append-nil done))
 reads_terms (t ∷ ts) n done rest h =
     let count : (n + 1) + length ts ≡ n + length (t ∷ ts) = omega arith in
@@ -144,7 +144,7 @@ abbrev passed : Stage → List ClaimRecord → Stage
 passed s [] = s
 passed s (k ∷ ks) = passed Claims ks
 
-reads_claims : (cs : List ClaimRecord) (n : ℕ) (s : Stage) (ts : List TermRecord) (done : List ClaimRecord) (rest : List (List (List ℕ))) → claim_at s ≡ Ok Claims → All ClaimFits cs → reads n s (having ts done []) (map spaced (map claim_line cs ++ rest)) ≡ reads (n + length cs) (passed s cs) (having ts (done ++ cs) []) (map spaced rest)
+reads_claims : (cs : List ClaimRecord) (n : ℕ) (s : Stage) (ts : List TermRecord) (done : List ClaimRecord) (rest : List (List (List ℕ))) → claim_at s ≡ Ok Claims → AllByRecursion ClaimFits cs → reads n s (having ts done []) (map spaced (map claim_line cs ++ rest)) ≡ reads (n + length cs) (passed s cs) (having ts (done ++ cs) []) (map spaced rest)
 reads_claims [] n s ts done rest g h = ap (λ k. reads k s (having ts done []) (map spaced rest)) (sym (add-zero n)) ∙ ap (λ cs. reads (n + 0) s (having ts cs []) (map spaced rest)) (sym (append-nil done))
 reads_claims (k ∷ ks) n s ts done rest g h =
     let count : (n + 1) + length ks ≡ n + length (k ∷ ks) = omega arith in
@@ -164,7 +164,7 @@ open_ended n Terms b g = refl
 open_ended n Claims b g = refl
 open_ended n Calls b g = refl
 
-reads_calls : (ks : List Calling) (n : ℕ) (s : Stage) (ts : List TermRecord) (cs : List ClaimRecord) (done : List Asked) → call_at s ≡ Ok Calls → All CallFits ks → reads n s (having ts cs done) (map spaced (map call_line ks)) ≡ Ok (having ts cs (done ++ numbered (n + 1) ks))
+reads_calls : (ks : List Calling) (n : ℕ) (s : Stage) (ts : List TermRecord) (cs : List ClaimRecord) (done : List Asked) → call_at s ≡ Ok Calls → AllByRecursion CallFits ks → reads n s (having ts cs done) (map spaced (map call_line ks)) ≡ Ok (having ts cs (done ++ numbered (n + 1) ks))
 reads_calls [] n s ts cs done g h = reads_nil n s (having ts cs done) ∙ open_ended n s (having ts cs done) g ∙ ap (λ v. Ok (having ts cs v)) (sym (append-nil done))
 reads_calls (k ∷ ks) n s ts cs done g h =
     let here : Asked = record { line = n + 1; call = k } in
@@ -175,15 +175,15 @@ reads_calls (k ∷ ks) n s ts cs done g h =
 
 -- ---- the whole
 
-plain_each : {X : Type 0} (line : X → List (List ℕ)) (Fits : X → Type 0) → ((x : X) → Fits x → All Plain (line x)) → (xs : List X) → All Fits xs → All (All Plain) (map line xs)
+plain_each : {X : Type 0} (line : X → List (List ℕ)) (Fits : X → Type 0) → ((x : X) → Fits x → AllByRecursion Plain (line x)) → (xs : List X) → AllByRecursion Fits xs → AllByRecursion (AllByRecursion Plain) (map line xs)
 plain_each line Fits f [] h = tt
 plain_each line Fits f (x ∷ xs) h = (f x h.0, plain_each line Fits f xs h.1)
 
 pub reads_back : ReadsBack
 reads_back ts cs ks ht hc hk =
     let claims-on = map claim_line cs ++ map call_line ks in
-    let plain : All (All Plain) (book_lines ts cs ks) =
-    (theory_plain, All-append (All Plain) (map term_line ts) claims-on (plain_each term_line TermFits term_plain ts ht) (All-append (All Plain) (map claim_line cs) (map call_line ks) (plain_each claim_line ClaimFits claim_plain cs hc) (plain_each call_line CallFits call_plain ks hk)))
+    let plain : AllByRecursion (AllByRecursion Plain) (book_lines ts cs ks) =
+    (theory_plain, All-append (AllByRecursion Plain) (map term_line ts) claims-on (plain_each term_line TermFits term_plain ts ht) (All-append (AllByRecursion Plain) (map claim_line cs) (map call_line ks) (plain_each claim_line ClaimFits claim_plain cs hc) (plain_each call_line CallFits call_plain ks hk)))
     in
     let count : ((1 + length ts) + length cs) + 1 ≡ 2 + (length ts + length cs) = omega arith in
     ap (reads 0 Start (having [] [] [])) (line_pieces (book_lines ts cs ks) plain)

@@ -1,6 +1,6 @@
 -- What written names and numbers are as words. Assumes nothing.
 use Rattle.std.proofs.Common.{◌≡◌, ℕ, ◌^◌, ◌<◌, ◌≤◌, true, false, cond, eqb, leb, List, [], ◌∷◌, map, length, Some, None, decimal, sym, refl, ap, ◌∙◌, arith, rules}
-use Rattle.std.specs.List.{AllByRecursion as All}
+use Rattle.std.specs.List.{AllByRecursion}
 use Rattle.std.specs.Str.{bytes_eq}
 use Rattle.std.proofs.lemmas.Fmt.{decimal_nonempty, digits_decimal, digits_value-decimal}
 use Rattle.std.proofs.lemmas.Str.Parse.{IsNumeralModel, numerals_by_fold}
@@ -75,7 +75,7 @@ digits_head b bs h =
     let q = and_parts (leb 48 b) (leb b 57) p.0 in
     (leb-true 48 b q.0, leb-true b 57 q.1, p.1)
 
-digits_above : (bs : List ℕ) → digits bs ≡ true → All (λ b. 35 < b) bs
+digits_above : (bs : List ℕ) → digits bs ≡ true → AllByRecursion (λ b. 35 < b) bs
 digits_above [] h = tt
 digits_above (b ∷ bs) h = let p = digits_head b bs h in (omega (arith, p.0), digits_above bs p.2)
 
@@ -94,10 +94,10 @@ number_word n h =
     ∙ ap (λ k. sized (held k)) (digits_value-decimal own n h)
     ∙ ap sized (sym (held_within n h))
 
-pub number_words : (ns : List ℕ) → All (λ n. n < 65536) ns → map word_of (map decimal ns) ≡ map Number ns
+pub number_words : (ns : List ℕ) → AllByRecursion (λ n. n < 65536) ns → map word_of (map decimal ns) ≡ map Number ns
 number_words [] h = refl
 number_words (n ∷ ns) h = ap (λ w. w ∷ map word_of (map decimal ns)) (number_word n (omega (arith, h.0))) ∙ ap (λ ws. Number n ∷ ws) (number_words ns h.1)
 
-pub numbers_plain : (ns : List ℕ) → All (λ n. n < 65536) ns → All Plain (map decimal ns)
+pub numbers_plain : (ns : List ℕ) → AllByRecursion (λ n. n < 65536) ns → AllByRecursion Plain (map decimal ns)
 numbers_plain [] h = tt
 numbers_plain (n ∷ ns) h = (number_plain n (omega (arith, h.0)), numbers_plain ns h.1)

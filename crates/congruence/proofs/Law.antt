@@ -2,7 +2,7 @@
 use Rattle.std.proofs.Common.{◌≡◌, ℕ, zero, suc, ◌+◌, ◌%◌, ◌<◌, ◌≤◌, Bool, true, false, cond, not, ◌||◌, eqb, ◌⊎◌, List, [], ◌∷◌, length, get_or, ℤ, pos, Some, None, Option, sym, refl, ap, ◌∙◌, subst, inl, inr, ⊎_elim, add-one, arith}
 use Rattle.std.proofs.lemmas.Int.{ints, by_lt_z}
 use Rattle.std.proofs.lemmas.Bool.{cases_eq, eq-eqb, ne_eqb, eqb-true, eqb-false, and_parts, and_from, or_cases, or_left, or_right, not-true, not_from_false}
-use Rattle.std.specs.List.{AllByRecursion as All}
+use Rattle.std.specs.List.{AllByRecursion}
 use Rattle.theory.specs.declared.term.Term.{Term}
 use Rattle.congruence.specs.declared.claim.Claim.{Claim}
 use Rattle.congruence.specs.declared.step.Step.{Step}
@@ -83,7 +83,7 @@ module _ (claims : List Claim) (v : List ℤ) where
 
 -- ---- a list of literals
 
-all_from : (P : ℕ → Type 0) (ls : List ℕ) → ((p : ℕ) → p < length ls → P (get_or ls p 0)) → All P ls
+all_from : (P : ℕ → Type 0) (ls : List ℕ) → ((p : ℕ) → p < length ls → P (get_or ls p 0)) → AllByRecursion P ls
 all_from P [] h = tt
 all_from P (l ∷ ls) h = (h 0 (omega arith), all_from P ls (λ p k. h (suc p) (omega (arith, k))))
 
@@ -239,7 +239,7 @@ module _ (ts : List Term) (claims : List Claim) (named : Named ts claims) (ls : 
     test : ℕ → ℕ → Bool
     test d p = eqb d p || needed ts (log_of ts claims ls) p (pair_of claims (get_or ls d 0)).left (pair_of claims (get_or ls d 0)).right
 
-    core_is_false : (d : ℕ) → Denied d → (v : List ℤ) → Fit ts (num v) → All (λ p. Holds claims v (get_or ls p 0)) (core ts claims ls d) → ⊥
+    core_is_false : (d : ℕ) → Denied d → (v : List ℤ) → Fit ts (num v) → AllByRecursion (λ p. Holds claims v (get_or ls p 0)) (core ts claims ls d) → ⊥
     unfolding test Same
     core_is_false d z v fit all =
         from_odd claims v (get_or ls d 0) z.odd (at_each d z.within (or_left _ _ (eq-eqb d d refl)))
@@ -306,7 +306,7 @@ stands ts claims few-ts lower few named =
         core_rises = λ ls ps p e. let w = split ls ps e in subst (Rising (length ls)) w.2 (listed_rises (length ls) _);
         core_fails = λ ls ps p e v f h. let w = split ls ps e in
             core_is_false ts claims named ls p lower w.0 (denied ts claims named ls p lower w.0 w.1) v f.1
-            (subst (All (λ q. Holds claims v (get_or ls q 0))) (sym w.2) h);
+            (subst (AllByRecursion (λ q. Holds claims v (get_or ls q 0))) (sym w.2) h);
       };
       labels = λ ls p. labelled ts claims named ls p lower;
       contradicted = λ ls ps p e. let w = split ls ps e in (w.0, contradicted ts claims named ls p lower w.0 (denied ts claims named ls p lower w.0 w.1));

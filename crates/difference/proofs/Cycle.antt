@@ -3,7 +3,7 @@
 use Rattle.std.proofs.Common.{◌≡◌, ℕ, zero, suc, ◌<◌, ◌≤◌, Bool, true, false, cond, ◌||◌, eqb, ◌⊎◌, List, [], ◌∷◌, map, length, get_or, ℤ, pos, ◌+ℤ◌, ◌-ℤ◌, ◌≤ℤ◌, ◌<ℤ◌, sym, refl, ap, ◌∙◌, subst, inl, inr, ⊎_elim, arith}
 use Rattle.std.proofs.lemmas.Int.{ints}
 use Rattle.std.proofs.lemmas.Bool.{cases_eq, cases_Bool, eqb-true, eqb-false, eq-eqb, or_cases, true≢false}
-use Rattle.std.specs.List.{AllByRecursion as All}
+use Rattle.std.specs.List.{AllByRecursion}
 use Rattle.theory.specs.Literals.{has}
 use Rattle.theory.specs.Positions.{put}
 use Rattle.theory.proofs.Positions.{listed_rises, listed_has, listed_only}
@@ -13,12 +13,12 @@ use Rattle.difference.specs.Settling.{limit, excess, lowers, back, around, core}
 
 -- ---- membership
 
-pub all_has : (P : ℕ → Type 0) (xs : List ℕ) → All P xs → (x : ℕ) → has xs x ≡ true → P x
+pub all_has : (P : ℕ → Type 0) (xs : List ℕ) → AllByRecursion P xs → (x : ℕ) → has xs x ≡ true → P x
 all_has P [] a x h = absurd (true≢false (sym h))
 all_has P (y ∷ ys) a x h =
     ⊎_elim (λ e. subst P (eqb-true y x e) a.0) (all_has P ys a.1 x) (or_cases (eqb y x) (has ys x) h)
 
-pub has_all : (P : ℕ → Type 0) (xs : List ℕ) → ((x : ℕ) → has xs x ≡ true → P x) → All P xs
+pub has_all : (P : ℕ → Type 0) (xs : List ℕ) → ((x : ℕ) → has xs x ≡ true → P x) → AllByRecursion P xs
 has_all P [] h = tt
 has_all P (y ∷ ys) h =
     (h y (ap (λ b. b || has ys y) (eq-eqb y y refl)), has_all P ys (λ x e. h x (later (eqb y x) (has ys x) e)))
@@ -34,18 +34,18 @@ same_tests false false f g = refl
 
 -- ---- a way along bounds
 
-pub leads_within : (bs : List Bound) (x : ℕ) (ps : List ℕ) (y : ℕ) → Leads bs x ps y → All (λ p. p < length bs) ps
+pub leads_within : (bs : List Bound) (x : ℕ) (ps : List ℕ) (y : ℕ) → Leads bs x ps y → AllByRecursion (λ p. p < length bs) ps
 leads_within bs x [] y w = tt
 leads_within bs x (p ∷ ps) y w = (w.0, leads_within bs (at bs p).base ps y w.2)
 
 -- a row that keeps the bounds of a way keeps their sum
-pub leads_sum : (bs : List Bound) (f : List ℤ) (x : ℕ) (ps : List ℕ) (y : ℕ) → Leads bs x ps y → All (λ p. Keeps f (at bs p)) ps → (num f x -ℤ num f y) ≤ℤ total bs ps
+pub leads_sum : (bs : List Bound) (f : List ℤ) (x : ℕ) (ps : List ℕ) (y : ℕ) → Leads bs x ps y → AllByRecursion (λ p. Keeps f (at bs p)) ps → (num f x -ℤ num f y) ≤ℤ total bs ps
 leads_sum bs f x [] y w a = let e : num f x ≡ num f y = ap (num f) w in omega (arith, ints)
 leads_sum bs f x (p ∷ ps) y w a =
     let e : num f (at bs p).term ≡ num f x = ap (num f) w.1 in
     omega (arith, ints, a.0, leads_sum bs f (at bs p).base ps y w.2 a.1, e)
 
-pub cycle_fails : (bs : List Bound) (ps : List ℕ) (f : List ℤ) → NegativeCycle bs ps → All (λ p. Keeps f (at bs p)) ps → ⊥
+pub cycle_fails : (bs : List Bound) (ps : List ℕ) (f : List ℤ) → NegativeCycle bs ps → AllByRecursion (λ p. Keeps f (at bs p)) ps → ⊥
 cycle_fails bs ps f c a = omega (arith, ints, c.negative, leads_sum bs f c.start ps c.start c.closed a)
 
 -- ---- back along the steps

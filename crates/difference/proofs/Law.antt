@@ -3,7 +3,7 @@ use Rattle.std.proofs.Common.{◌≡◌, ℕ, suc, ◌*◌, ◌%◌, ◌<◌, eq
 use Rattle.std.proofs.lemmas.Int.{ints, by_lt_z}
 use Rattle.std.proofs.lemmas.Bool.{cases_eq, cond-true, cond-false, eq-eqb, ne_eqb}
 use Rattle.std.proofs.lemmas.List.{length-map, get_or-map}
-use Rattle.std.specs.List.{AllByRecursion as All}
+use Rattle.std.specs.List.{AllByRecursion}
 use Rattle.theory.specs.Literals.{claim, complement, Proper}
 use Rattle.theory.specs.Meaning.{possible, impossible, Rising}
 use Rattle.theory.proofs.Claims.{proper_at}
@@ -93,11 +93,11 @@ bound_small claims range l h =
 
 -- ---- what an outcome says of a list
 
-all_keep : (claims : List Bound) (row : List ℤ) (ls : List ℕ) → Each (Keeps row) (said claims ls) → All (λ l. Keeps row (bound_of claims l)) ls
+all_keep : (claims : List Bound) (row : List ℤ) (ls : List ℕ) → Each (Keeps row) (said claims ls) → AllByRecursion (λ l. Keeps row (bound_of claims l)) ls
 all_keep claims row [] h = tt
 all_keep claims row (l ∷ ls) h = (h 0 (omega arith), all_keep claims row ls (λ p k. h (suc p) (omega (arith, k))))
 
-all_at : (claims : List Bound) (v : List ℤ) (ls ps : List ℕ) → All (λ p. p < length (said claims ls)) ps → All (λ p. Keeps v (bound_of claims (get_or ls p 0))) ps → All (λ p. Keeps v (at (said claims ls) p)) ps
+all_at : (claims : List Bound) (v : List ℤ) (ls ps : List ℕ) → AllByRecursion (λ p. p < length (said claims ls)) ps → AllByRecursion (λ p. Keeps v (bound_of claims (get_or ls p 0))) ps → AllByRecursion (λ p. Keeps v (at (said claims ls) p)) ps
 all_at claims v ls [] r h = tt
 all_at claims v ls (p ∷ ps) r h = (
   subst (Keeps v) (sym (get_or-map (bound_of claims) ls p 0 no_bound (omega (arith, r.0, length-map ls (bound_of claims))))) h.0,
@@ -105,7 +105,7 @@ all_at claims v ls (p ∷ ps) r h = (
 )
 
 -- what holds at each position of a core holds around its cycle
-all_around : (P : ℕ → Type 0) (bs : List Bound) (core : List ℕ) (k : Core bs core) → All P core → All P k.around
+all_around : (P : ℕ → Type 0) (bs : List Bound) (core : List ℕ) (k : Core bs core) → AllByRecursion P core → AllByRecursion P k.around
 all_around P bs core k a = has_all P k.around (λ p h. all_has P core a p (k.same p ∙ h))
 
 when_possible : (m : ℕ) (bs : List Bound) (o : Outcome) → Good m bs o → answer_of o ≡ possible → Greatest m bs (row_of o)
@@ -147,6 +147,6 @@ stands m claims hm hn named = record {
     cycle : (ls ps : List ℕ) → Proper (length claims) ls → answer_of (outcome m (said claims ls)) ≡ impossible ps → Core (said claims ls) ps
     cycle ls ps p e = when_impossible m (said claims ls) (outcome m (said claims ls)) ps (good m claims named ls p) e
 
-    kept : (bs : List Bound) (row : List ℤ) → Each (Keeps row) bs → (ps : List ℕ) → All (λ p. p < length bs) ps → All (λ p. Keeps row (at bs p)) ps
+    kept : (bs : List Bound) (row : List ℤ) → Each (Keeps row) bs → (ps : List ℕ) → AllByRecursion (λ p. p < length bs) ps → AllByRecursion (λ p. Keeps row (at bs p)) ps
     kept bs row h [] a = tt
     kept bs row h (p ∷ ps) a = (h p a.0, kept bs row h ps a.1)

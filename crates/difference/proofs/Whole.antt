@@ -3,7 +3,7 @@ use Rattle.std.proofs.Common.{◌≡◌, ℕ, zero, suc, ◌+◌, ◌<◌, ◌�
 use Rattle.std.proofs.lemmas.Int.{ints}
 use Rattle.std.proofs.lemmas.Bool.{cases_eq}
 use Rattle.std.proofs.lemmas.List.{length_push, length-append, length-replicate, get_or_append_left, get_or_push}
-use Rattle.std.specs.List.{AllByRecursion as All}
+use Rattle.std.specs.List.{AllByRecursion}
 use Rattle.difference.specs.declared.bound.Bound.{Bound}
 use Rattle.theory.specs.Meaning.{Rising}
 use Rattle.difference.specs.Bounds.{Leads, total, Distinct, NegativeCycle, no_bound, at, num, Each, Keeps, Greatest, Core, Named}
@@ -47,11 +47,11 @@ module _ (seen : List Bound) (b : Bound) where
     subst (λ c. Leads (seen ++ b ∷ []) c.base ps y) (sym (at_left seen b p w.0)) (leads_push (at seen p).base ps y w.2),
   )
 
-  total_push : (ps : List ℕ) → All (λ p. p < length seen) ps → total (seen ++ b ∷ []) ps ≡ total seen ps
+  total_push : (ps : List ℕ) → AllByRecursion (λ p. p < length seen) ps → total (seen ++ b ∷ []) ps ≡ total seen ps
   total_push [] a = refl
   total_push (p ∷ ps) a = ap (λ c. c.most +ℤ total (seen ++ b ∷ []) ps) (at_left seen b p a.0) ∙ ap (λ z. (at seen p).most +ℤ z) (total_push ps a.1)
 
-  terms_push : (ps : List ℕ) → All (λ p. p < length seen) ps → map (λ p. (at (seen ++ b ∷ []) p).term) ps ≡ map (λ p. (at seen p).term) ps
+  terms_push : (ps : List ℕ) → AllByRecursion (λ p. p < length seen) ps → map (λ p. (at (seen ++ b ∷ []) p).term) ps ≡ map (λ p. (at seen p).term) ps
   terms_push [] a = refl
   terms_push (p ∷ ps) a = ap (λ c. c.term ∷ map (λ q. (at (seen ++ b ∷ []) q).term) ps) (at_left seen b p a.0) ∙ ap (λ z. (at seen p).term ∷ z) (terms_push ps a.1)
 
@@ -59,7 +59,7 @@ module _ (seen : List Bound) (b : Bound) where
   core_push : (ps : List ℕ) → Core seen ps → Core (seen ++ b ∷ []) ps
   core_push ps k =
       let c : NegativeCycle seen k.around = k.cycle in
-      let inside : All (λ p. p < length seen) k.around = leads_within seen c.start k.around c.start c.closed in
+      let inside : AllByRecursion (λ p. p < length seen) k.around = leads_within seen c.start k.around c.start c.closed in
       record {
         rises = rising_up (length seen) (length (seen ++ b ∷ [])) ps (omega (arith, length_push seen b)) k.rises;
         around = k.around;

@@ -1,7 +1,7 @@
 -- A loop through a queue that finds the bound broken most. Assumes nothing.
 use Rattle.std.proofs.Common.{◌≡◌, ℕ, ◌+◌, ◌<◌, ◌≤◌, true, ◌⊎◌, List, [], ◌∷◌, ◌++◌, length, get_or, take, ℤ, pos, ◌≤ℤ◌, ◌<ℤ◌, sym, refl, ap, ◌∙◌, subst, inl, inr, ⊎_elim, arith}
 use lib.Signed.{lt_z}
-use Rattle.std.specs.List.{AllByRecursion as All}
+use Rattle.std.specs.List.{AllByRecursion}
 use Rattle.std.proofs.lemmas.Int.{ints}
 use Rattle.std.proofs.ByRecursion.{All-push, All-weaker}
 use Rattle.std.proofs.lemmas.List.{take_more, take_all}
@@ -18,8 +18,8 @@ pub record Best (row : List ℤ) (bs : List Bound) (qs : List ℕ) (p : ℕ) (fa
   pub low : pos 0 ≤ℤ far
   pub none : far ≤ℤ pos 0 → p ≡ 0
   pub some : pos 0 <ℤ far → (p < length bs) × (far ≡ excess row (at bs p))
-  pub most : All (λ q. excess row (at bs q) ≤ℤ far) qs
-  pub first : All (λ q. excess row (at bs q) ≡ far → p ≤ q) qs
+  pub most : AllByRecursion (λ q. excess row (at bs q) ≤ℤ far) qs
+  pub first : AllByRecursion (λ q. excess row (at bs q) ≡ far → p ≤ q) qs
 
 pub best_none : (row : List ℤ) (bs : List Bound) → Best row bs [] 0 (pos 0)
 best_none row bs = record { low = omega (arith, ints); none = λ _. refl; some = λ h. absurd (omega (arith, ints, h)); most = tt; first = tt }
@@ -44,7 +44,7 @@ best_more row bs qs p far q over r b within e l = record {
       (λ h. l.first.1 (e ∙ h));
 }
   where
-    all_both : (P Q R : ℕ → Type 0) → ((k : ℕ) → P k → Q k → R k) → (ks : List ℕ) → All P ks → All Q ks → All R ks
+    all_both : (P Q R : ℕ → Type 0) → ((k : ℕ) → P k → Q k → R k) → (ks : List ℕ) → AllByRecursion P ks → AllByRecursion Q ks → AllByRecursion R ks
     all_both P Q R f [] a b = tt
     all_both P Q R f (k ∷ ks) a b = (f k a.0 b.0, all_both P Q R f ks a.1 b.1)
 

@@ -5,7 +5,7 @@ use Rattle.std.proofs.lemmas.Int.{ints}
 use Rattle.std.proofs.lemmas.Bool.{cond-true, cond-false, eq-eqb, ne_eqb}
 use Rattle.std.proofs.lemmas.List.{length-set}
 use Rattle.std.proofs.ByRecursion.{All-push}
-use Rattle.std.specs.List.{AllByRecursion as All}
+use Rattle.std.specs.List.{AllByRecursion}
 use Rattle.difference.specs.declared.bound.Bound.{Bound}
 use Rattle.difference.specs.Bounds.{at, Each, Named}
 use Rattle.difference.specs.Settling.{limit, excess, worst, core, Outcome, fits, clash, turn, settle}
@@ -18,7 +18,7 @@ pub record Turning (bs : List Bound) (u : ℕ) (old row : List ℤ) (steps : Lis
   pub long : length row ≡ length old
   pub count : done + left ≡ length old + 1
   pub inside : Inside (39000 + done) row
-  pub positions : All (λ q. q < length bs) steps
+  pub positions : AllByRecursion (λ q. q < length bs) steps
 
 settle_more : (bs : List Bound) (u left : ℕ) (row : List ℤ) (steps : List ℕ) → 0 < left → settle bs u left row steps ≡ turn bs u (settle bs u (left - 1)) row steps (worst row bs)
 unfolding settle

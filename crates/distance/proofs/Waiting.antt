@@ -1,7 +1,7 @@
 -- A queue that has each bound that a row breaks, none twice, as a term is lowered. Assumes nothing.
 use Rattle.std.proofs.Common.{◌≡◌, ℕ, zero, suc, ◌+◌, ◌-◌, ◌<◌, ◌≤◌, Bool, true, false, cond, not, ◌&&◌, ◌||◌, eqb, List, [], ◌∷◌, ◌++◌, length, set, ℤ, pos, ◌≤ℤ◌, ◌<ℤ◌, filter, sym, refl, ap, ◌∙◌, ⊎_elim, arith}
 use lib.Signed.{lt_z}
-use Rattle.std.specs.List.{AllByRecursion as All}
+use Rattle.std.specs.List.{AllByRecursion}
 use Rattle.std.proofs.lemmas.Int.{ints}
 use Rattle.std.proofs.ByRecursion.{All-append, all_kept_by}
 use Rattle.std.proofs.lemmas.Bool.{cases_Bool, cases_eq, and_from, and_parts, or_cases, or_from, or_left, or_right, or_parts, eq-eqb, eqb-true, eqb-false, not-true, both_ways}
@@ -66,12 +66,12 @@ module _ (n : ℕ) where
   other : ℕ → Bool
   other x = not (eqb x n)
 
-  others_below : (xs : List ℕ) → All (λ x. x < suc n) xs → All (λ x. x < n) (filter other xs)
+  others_below : (xs : List ℕ) → AllByRecursion (λ x. x < suc n) xs → AllByRecursion (λ x. x < n) (filter other xs)
   unfolding other
   others_below [] a = tt
   others_below (x ∷ xs) a = go (others_below xs a.1) (other x) refl
     where
-      go : All (λ y. y < n) (filter other xs) → (c : Bool) → other x ≡ c → All (λ y. y < n) (cond c (x ∷ filter other xs) (filter other xs))
+      go : AllByRecursion (λ y. y < n) (filter other xs) → (c : Bool) → other x ≡ c → AllByRecursion (λ y. y < n) (cond c (x ∷ filter other xs) (filter other xs))
       go again true e = (let ne : x ≡ n → ⊥ = eqb-false x n (not-true (eqb x n) e) in omega (arith, a.0, ne), again)
       go again false e = again
 
@@ -91,7 +91,7 @@ module _ (n : ℕ) where
       go again true e = omega (arith, none_lost xs (ap (has xs) (sym (eqb-true x n e)) ∙ d.0))
       go again false e = omega (arith, again)
 
-few : (n : ℕ) (xs : List ℕ) → All (λ x. x < n) xs → Distinct xs → length xs ≤ n
+few : (n : ℕ) (xs : List ℕ) → AllByRecursion (λ x. x < n) xs → Distinct xs → length xs ≤ n
 few zero [] a d = omega arith
 few zero (x ∷ xs) a d = absurd (omega (arith, a.0))
 few (suc n) xs a d = omega (arith, few n (filter (other n) xs) (others_below n xs a) (kept_distinct (other n) xs d), one_lost n xs d)
@@ -138,7 +138,7 @@ module _ (row : List ℤ) (bs : List Bound) (x : ℕ) where
 
 pub record Waiting (row : List ℤ) (bs : List Bound) (qs : List ℕ) : Type 0 where
   pub covers : Covers row bs qs
-  pub positions : All (λ q. q < length bs) qs
+  pub positions : AllByRecursion (λ q. q < length bs) qs
   pub distinct : Distinct qs
 
 pub waiting_few : {row : List ℤ} {bs : List Bound} {qs : List ℕ} → Waiting row bs qs → length qs ≤ length bs

@@ -1,6 +1,6 @@
 //! A queue of the bounds that a row may break, by position.
 ghost use Rattle.std.specs.Prelude.{◌≡◌, ◌+◌, ◌<◌, ◌≤◌, ◌++◌, length, vec_capacity, filter};
-ghost use Rattle.std.specs.List.{AllByRecursion as All};
+ghost use Rattle.std.specs.List.{AllByRecursion};
 ghost use Rattle.difference.specs.Bounds.{Each, Named};
 ghost use Rattle.difference.specs.Settling.{worst};
 ghost use Rattle.difference.specs.Depth.{Small, Inside};
@@ -28,7 +28,7 @@ pub(crate) fn pick(bounds: &[Bound], row: &[i64], queue: &mut Vec<usize>) -> (us
     requires small { Each Small bounds.now }
     requires few { length bounds.now ≤ 128 }
     requires inside { Inside 40000 row.now }
-    requires positions { All (λ q. q < length bounds.now) queue.old.items }
+    requires positions { AllByRecursion (λ q. q < length bounds.now) queue.old.items }
     requires covers { Covers row.now bounds.now queue.old.items }
     ensures worst { result ≡ worst row.now bounds.now }
     ensures kept { queue.new.items ≡ filter (breaks row.now bounds.now) queue.old.items }

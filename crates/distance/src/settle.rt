@@ -1,6 +1,6 @@
 //! Settling a row of numbers after one more bound, and the cycle that is found instead.
 ghost use Rattle.std.specs.Prelude.{◌≡◌, ℕ, ◌+◌, ◌-◌, ◌*◌, ◌<◌, ◌≤◌, false, [], length, take, IfSome, vec_capacity, MatchOption, slice_index_or};
-ghost use Rattle.std.specs.List.{AllByRecursion as All};
+ghost use Rattle.std.specs.List.{AllByRecursion};
 ghost use Rattle.theory.specs.Literals.{has};
 ghost use Rattle.difference.specs.Bounds.{at, Each, Named};
 ghost use Rattle.difference.specs.Settling.{around, core, settle, outcome, fits, clash};
@@ -33,7 +33,7 @@ fn settle_row(
     requires index { (Indexed bounds.now index.now) × (length index.now.heads.items ≡ length row.old) }
     ensures settles { MatchOption result (settle bounds.now last (length row.old + 1) row.old [] ≡ fits row.new) (λ p. settle bounds.now last (length row.old + 1) row.old [] ≡ clash (core bounds.now steps.new.items p)) }
     ensures within { IfSome result (λ p. p < length bounds.now) }
-    ensures positions { All (λ q. q < length bounds.now) steps.new.items }
+    ensures positions { AllByRecursion (λ q. q < length bounds.now) steps.new.items }
     ensures capacity { (vec_capacity steps.new ≡ vec_capacity steps.old) × (vec_capacity queue.new ≡ vec_capacity queue.old) }
 {
     steps.clear();
@@ -62,7 +62,7 @@ fn settle_row(
 fn mark_cycle(bounds: &[Bound], steps: &[usize], p: usize, marks: &mut [bool])
     requires few { length bounds.now ≤ 128 }
     requires within { p < length bounds.now }
-    requires positions { All (λ q. q < length bounds.now) steps.now }
+    requires positions { AllByRecursion (λ q. q < length bounds.now) steps.now }
     requires long { length bounds.now ≤ length marks.old }
     ensures { (q : ℕ) → slice_index_or marks.new q false ≡ has (around bounds.now steps.now p) q }
 {

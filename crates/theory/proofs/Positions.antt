@@ -2,7 +2,7 @@
 use Rattle.std.proofs.Common.{◌≡◌, ℕ, zero, suc, ◌+◌, ◌-◌, ◌<◌, ◌≤◌, Bool, true, false, eqb, List, [], ◌∷◌, ◌++◌, length, take, drop, set, sym, refl, ap, ◌∙◌, subst, ⊎_elim, append_assoc, append-nil, arith, take-append-drop}
 use Rattle.std.proofs.lemmas.List.{take_more_set, drop-set-lt, length-take-le, drop-drop, length-set}
 use Rattle.std.proofs.lemmas.Bool.{cases_eq, or_cases, or_left, or_right, eq-eqb, eqb-true}
-use Rattle.std.specs.List.{AllByRecursion as All}
+use Rattle.std.specs.List.{AllByRecursion}
 use Rattle.theory.specs.Literals.{has}
 use Rattle.theory.specs.Positions.{put, listed}
 use Rattle.theory.specs.Meaning.{Rising}
@@ -39,13 +39,13 @@ pub listed_rises : (n : ℕ) (test : ℕ → Bool) → Rising n (listed 0 n test
 listed_rises n test = rising 0 n (listed 0 n test) (listed_from 0 n n test (omega arith))
 
 -- what holds of all that are listed holds of each number that passes the test
-pub listed_all : (P : ℕ → Type 0) (low count : ℕ) (test : ℕ → Bool) → All P (listed low count test)
+pub listed_all : (P : ℕ → Type 0) (low count : ℕ) (test : ℕ → Bool) → AllByRecursion P (listed low count test)
     → (k : ℕ) → low ≤ k → k < low + count → test k ≡ true → P k
 unfolding listed
 listed_all P low zero test h k a b e = absurd (omega arith)
 listed_all P low (suc count) test h k a b e = go (λ g i. listed_all P (low + 1) count test g k i (omega arith) e) (test low) refl h
   where
-    go : (All P (listed (low + 1) count test) → low + 1 ≤ k → P k) → (c : Bool) → test low ≡ c → All P (put c low (listed (low + 1) count test)) → P k
+    go : (AllByRecursion P (listed (low + 1) count test) → low + 1 ≤ k → P k) → (c : Bool) → test low ≡ c → AllByRecursion P (put c low (listed (low + 1) count test)) → P k
     go again true q h = ⊎_elim
         (λ (x : k ≡ low). subst P (sym x) h.0)
         (λ (x : k ≡ low → ⊥). again h.1 (omega arith))
