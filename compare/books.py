@@ -1,9 +1,9 @@
 #!/usr/bin/env python3
-"""Random books, answered by target/bin/inkstep and by a solver that shares no code with it.
+"""Random books, answered by the built inkstep and by a solver that shares no code with it.
 
-    python3 compare/books.py [SEED [BOOKS]]
+    python3 compare/books.py [SEED [BOOKS [THEORY ..]]]
 
-Each book asserts, takes back, tries, queries and writes. What the program answers is compared with plain
+The theories are those that the program reads books of: equality, unless others are named. Each book asserts, takes back, tries, queries and writes. What the program answers is compared with plain
 reference solvers: Bellman and Ford's for distances, closure by repeated passes for equality. The core is free, so it is
 held to what is promised of it. The first difference ends the run with status 1.
 """
@@ -12,7 +12,7 @@ import random
 import subprocess
 import sys
 
-INKSTEP = os.path.join(os.path.dirname(os.path.abspath(__file__)), "..", "target", "bin", "inkstep")
+INKSTEP = os.path.join(os.path.dirname(os.path.abspath(__file__)), "..", "crates", "inkstep", "out", "inkstep")
 
 
 class Distance:
@@ -153,9 +153,10 @@ def check(book, call, literals, answer, cores):
 def main():
     seed = int(sys.argv[1]) if len(sys.argv) > 1 else 1
     books = int(sys.argv[2]) if len(sys.argv) > 2 else 200
+    theories = [theory for theory in (Distance, Equality) if theory.name in (sys.argv[3:] or ["equality"])]
     rnd, answers = random.Random(seed), 0
     for number in range(books):
-        book = rnd.choice([Distance, Equality])(rnd)
+        book = rnd.choice(theories)(rnd)
         asked = list(calls(rnd, book, rnd.choice([10, 60, 300])))
         text = "\n".join([f"theory {book.name}"] + book.lines + [call for call, _ in asked]) + "\n"
         run = subprocess.run([INKSTEP, "ask", "-"], input=text, capture_output=True, text=True, check=True)
