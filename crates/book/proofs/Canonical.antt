@@ -181,14 +181,14 @@ plain_each line Fits f (x ∷ xs) h = (f x h.0, plain_each line Fits f xs h.1)
 
 pub reads_back : ReadsBack
 reads_back ts cs ks ht hc hk =
-    let claims-on = map claim_line cs ++ map call_line ks in
+    let claims_on = map claim_line cs ++ map call_line ks in
     let plain : AllByRecursion (AllByRecursion Plain) (book_lines ts cs ks) =
-    (theory_plain, All-append (AllByRecursion Plain) (map term_line ts) claims-on (plain_each term_line TermFits term_plain ts ht) (All-append (AllByRecursion Plain) (map claim_line cs) (map call_line ks) (plain_each claim_line ClaimFits claim_plain cs hc) (plain_each call_line CallFits call_plain ks hk)))
+    (theory_plain, All-append (AllByRecursion Plain) (map term_line ts) claims_on (plain_each term_line TermFits term_plain ts ht) (All-append (AllByRecursion Plain) (map claim_line cs) (map call_line ks) (plain_each claim_line ClaimFits claim_plain cs hc) (plain_each call_line CallFits call_plain ks hk)))
     in
     let count : ((1 + length ts) + length cs) + 1 ≡ 2 + (length ts + length cs) = omega arith in
     ap (reads 0 Start (having [] [] [])) (line_pieces (book_lines ts cs ks) plain)
-    ∙ reads_more 0 Start (having [] [] []) (spaced theory_line) (map spaced (map term_line ts ++ claims-on)) Terms (having [] [] []) (turned 1 Start (having [] [] []) (spaced theory_line) theory Terms theory_said refl)
-    ∙ reads_terms ts 1 [] claims-on ht
+    ∙ reads_more 0 Start (having [] [] []) (spaced theory_line) (map spaced (map term_line ts ++ claims_on)) Terms (having [] [] []) (turned 1 Start (having [] [] []) (spaced theory_line) theory Terms theory_said refl)
+    ∙ reads_terms ts 1 [] claims_on ht
     ∙ reads_claims cs (1 + length ts) Terms ts [] (map call_line ks) refl hc
     ∙ reads_calls ks ((1 + length ts) + length cs) (passed Terms cs) ts cs [] (passed_open Terms cs refl) hk
     ∙ ap (λ n. Ok (having ts cs (numbered n ks))) count

@@ -282,23 +282,23 @@ module _ (ts : List Term) (claims : List Claim) (named : Named ts claims) (ls : 
 
 -- ---- the law
 
-when_possible : (at-core : ℕ → List ℕ) (o : Option ℕ) → answer_of at-core o ≡ possible → o ≡ None
-when_possible at-core None e = refl
-when_possible at-core (Some d) e = absurd (let z : ◌≡◌ {A = ℕ} 0 1 = cc in omega arith)
+when_possible : (at_core : ℕ → List ℕ) (o : Option ℕ) → answer_of at_core o ≡ possible → o ≡ None
+when_possible at_core None e = refl
+when_possible at_core (Some d) e = absurd (let z : ◌≡◌ {A = ℕ} 0 1 = cc in omega arith)
 
-when_impossible : (at-core : ℕ → List ℕ) (o : Option ℕ) (ps : List ℕ) → answer_of at-core o ≡ impossible ps → (d : ℕ) × (o ≡ Some d) × (at-core d ≡ ps)
-when_impossible at-core None ps e = absurd (let z : ◌≡◌ {A = ℕ} 0 1 = cc in omega arith)
-when_impossible at-core (Some d) ps e = (d, refl, cc)
+when_impossible : (at_core : ℕ → List ℕ) (o : Option ℕ) (ps : List ℕ) → answer_of at_core o ≡ impossible ps → (d : ℕ) × (o ≡ Some d) × (at_core d ≡ ps)
+when_impossible at_core None ps e = absurd (let z : ◌≡◌ {A = ℕ} 0 1 = cc in omega arith)
+when_impossible at_core (Some d) ps e = (d, refl, cc)
 
 pub stands : Stands
 unfolding out
-stands ts claims few-ts lower few named =
+stands ts claims few_ts lower few named =
     let split : (ls ps : List ℕ) → answer_of (core ts claims ls) (clash ts claims ls) ≡ impossible ps → (d : ℕ) × (clash ts claims ls ≡ Some d) × (core ts claims ls d ≡ ps) =
     λ ls ps e. when_impossible (core ts claims ls) (clash ts claims ls) ps e in
     record {
       law = record {
         few_claims = few;
-        few_terms = few-ts;
+        few_terms = few_ts;
         one_holds = λ v f l h. one claims v l;
         not_both = λ v f l h x y. not_two claims v l x y;
         possible_fit = λ ls p e. (row_long 0 (length ts) _, out_fit ts claims named ls p lower);

@@ -64,7 +64,7 @@ pub record Start (m : ℕ) (bs : List Bound) (u : ℕ) (old : List ℤ) : Type 0
 
 module _ (m : ℕ) (bs : List Bound) (u : ℕ) (old : List ℤ) (start : Start m bs u old)
     (row : List ℤ) (steps : List ℕ) (gap : ℤ) (g : Going m bs u old row steps gap)
-    (p : ℕ) (e : ℤ) (within : p < length bs) (e-is : e ≡ excess row (at bs p)) (broken : pos 0 <ℤ e) where
+    (p : ℕ) (e : ℤ) (within : p < length bs) (e_is : e ≡ excess row (at bs p)) (broken : pos 0 <ℤ e) where
   -- the base of a broken bound is u or was lowered before
   pub base_led : ((at bs p).base ≡ u) ⊎ Led bs steps (length steps) (at bs p).base
   base_led =
@@ -78,15 +78,15 @@ module _ (m : ℕ) (bs : List Bound) (u : ℕ) (old : List ℤ) (start : Start m
       (λ i. inr i)
       (g.led (at bs p).base)
 
-  module _ (most : Each (λ b. excess row b ≤ℤ e) bs) (t-free : (at bs p).term ≡ u → ⊥) where
+  module _ (most : Each (λ b. excess row b ≤ℤ e) bs) (t_free : (at bs p).term ≡ u → ⊥) where
     t_in : (at bs p).term < length row
     t_in = omega (arith, (start.formed p within).0, g.long)
 
     on_settling : Settling bs old (set row (at bs p).term (limit row (at bs p))) e
-    on_settling = settles_on bs u old row gap g.settling start.kept p (at bs p).term (limit row (at bs p)) e within refl t_in t-free refl e-is broken most
+    on_settling = settles_on bs u old row gap g.settling start.kept p (at bs p).term (limit row (at bs p)) e within refl t_in t_free refl e_is broken most
 
     pub was_old : num row (at bs p).term ≡ num old (at bs p).term
-    was_old = t_old bs u old row gap g.settling start.kept p (at bs p).term (limit row (at bs p)) e within refl t_in t-free refl e-is broken most
+    was_old = t_old bs u old row gap g.settling start.kept p (at bs p).term (limit row (at bs p)) e within refl t_in t_free refl e_is broken most
 
     moved_at : (x : ℕ) → Moved row (at bs p).term (limit row (at bs p)) x
     moved_at = moved row (at bs p).term (limit row (at bs p)) t_in
@@ -112,7 +112,7 @@ module _ (m : ℕ) (bs : List Bound) (u : ℕ) (old : List ℤ) (start : Start m
         (λ y. y.1) (moved_at (at bs q).term) in
         let base : num row' (at bs q).base ≤ℤ num row (at bs q).base = ⊎_elim
         (λ y. let a : num row (at bs q).base ≡ num row (at bs p).term = ap (num row) y.0 in
-        omega (arith, ints, a, y.1, e-is, broken))
+        omega (arith, ints, a, y.1, e_is, broken))
         (λ y. omega (arith, ints, y.1)) (moved_at (at bs q).base) in
         record {
           within = rw q_is s.within;
@@ -130,14 +130,14 @@ module _ (m : ℕ) (bs : List Bound) (u : ℕ) (old : List ℤ) (start : Start m
         let row' : List ℤ = set row (at bs p).term (limit row (at bs p)) in
         let here : num row' (at bs p).term ≡ limit row (at bs p) = ⊎_elim (λ y. y.1) (λ y. absurd (y.0 refl)) (moved_at (at bs p).term) in
         let tight : limit row' (at bs p) ≤ℤ num row' (at bs p).term = ⊎_elim
-        (λ y. let a : num row (at bs p).base ≡ num row (at bs p).term = ap (num row) y.0 in omega (arith, ints, y.1, here, a, e-is, broken))
+        (λ y. let a : num row (at bs p).base ≡ num row (at bs p).term = ap (num row) y.0 in omega (arith, ints, y.1, here, a, e_is, broken))
         (λ y. omega (arith, ints, y.1, here))
         (moved_at (at bs p).base) in
         record {
           within = rw q_is within;
           tight = rw q_is tight;
-          lowered = rw q_is (omega (arith, ints, here, was_old, e-is, broken));
-          off = rw q_is t-free;
+          lowered = rw q_is (omega (arith, ints, here, was_old, e_is, broken));
+          off = rw q_is t_free;
           from = rw q_is (⊎_elim (λ k. inl k)
               (λ i. inr (i.0, i.1, ap (λ n. (at bs n).term) (get_or_append_left steps (p ∷ []) 0 i.0 i.1) ∙ i.2))
               base_led);
@@ -183,7 +183,7 @@ module _ (m : ℕ) (bs : List Bound) (u : ℕ) (old : List ℤ) (start : Start m
     pub fewer : free old (set row (at bs p).term (limit row (at bs p))) + 1 ≡ free old row
     fewer =
         free_set old row (at bs p).term (limit row (at bs p)) (g.long ∙ sym start.long) t_in was_old
-        (omega (arith, ints, was_old, e-is, broken))
+        (omega (arith, ints, was_old, e_is, broken))
 
 -- no bound that the row breaks has the term that is lowered next for its base
 pub base_apart : (m : ℕ) (bs : List Bound) (u : ℕ) (old : List ℤ) (start : Start m bs u old) (row : List ℤ) (steps : List ℕ) (gap : ℤ) (g : Going m bs u old row steps gap)

@@ -26,18 +26,18 @@ pub record Settling (bs : List Bound) (old row : List ℤ) (gap : ℤ) : Type 0 
   pub kept : Each (λ b. (num row b.term ≡ num old b.term) ⊎ (excess row b ≤ℤ pos 0)) bs
 
 module _ (bs : List Bound) (u : ℕ) (old row : List ℤ) (gap : ℤ) (s : Settling bs old row gap)
-    (old-kept : Each (λ b. (b.base ≡ u) ⊎ (excess old b ≤ℤ pos 0)) bs)
-    (p : ℕ) (t : ℕ) (v e : ℤ) (within : p < length bs) (t-is : t ≡ (at bs p).term) (t_in : t < length row)
-    (t-free : t ≡ u → ⊥) (v-is : v ≡ limit row (at bs p)) (e-is : e ≡ excess row (at bs p)) (broken : pos 0 <ℤ e)
+    (old_kept : Each (λ b. (b.base ≡ u) ⊎ (excess old b ≤ℤ pos 0)) bs)
+    (p : ℕ) (t : ℕ) (v e : ℤ) (within : p < length bs) (t_is : t ≡ (at bs p).term) (t_in : t < length row)
+    (t_free : t ≡ u → ⊥) (v_is : v ≡ limit row (at bs p)) (e_is : e ≡ excess row (at bs p)) (broken : pos 0 <ℤ e)
     (most : Each (λ b. excess row b ≤ℤ e) bs) where
   -- the term was not lowered before
   pub t_old : num row t ≡ num old t
   t_old =
-      ⊎_elim (λ h. ap (num row) t-is ∙ h ∙ ap (num old) (sym t-is)) (λ h. absurd (omega (arith, ints, h)))
+      ⊎_elim (λ h. ap (num row) t_is ∙ h ∙ ap (num old) (sym t_is)) (λ h. absurd (omega (arith, ints, h)))
       (s.kept p within)
 
   pub down : (v +ℤ e) ≡ num row t
-  down = let h : num row t ≡ num row (at bs p).term = ap (num row) t-is in omega (arith, ints)
+  down = let h : num row t ≡ num row (at bs p).term = ap (num row) t_is in omega (arith, ints)
 
   next_lower : (x : ℕ) → num (set row t v) x ≤ℤ num old x
   next_lower x =
@@ -59,8 +59,8 @@ module _ (bs : List Bound) (u : ℕ) (old row : List ℤ) (gap : ℤ) (s : Settl
 
   -- a bound on the lowered term, other than one on u, is kept by the old row
   from_t : (b : Bound) → (b.base ≡ u) ⊎ (excess old b ≤ℤ pos 0) → b.base ≡ t → (excess old b ≤ℤ pos 0) × (num row b.base ≡ num old t) × (num old b.base ≡ num old t)
-  from_t b h e-t =
-      (⊎_elim (λ k. absurd (t-free (sym e-t ∙ k))) (λ k. k) h, ap (num row) e-t ∙ t_old, ap (num old) e-t)
+  from_t b h e_t =
+      (⊎_elim (λ k. absurd (t_free (sym e_t ∙ k))) (λ k. k) h, ap (num row) e_t ∙ t_old, ap (num old) e_t)
 
   near_at : (b : Bound) → (b.base ≡ u) ⊎ (excess old b ≤ℤ pos 0) → excess row b ≤ℤ e → excess (set row t v) b ≤ℤ e
   near_at b o h =
@@ -77,7 +77,7 @@ module _ (bs : List Bound) (u : ℕ) (old row : List ℤ) (gap : ℤ) (s : Settl
       (moved row t v t_in b.term)
 
   next_near : Each (λ b. excess (set row t v) b ≤ℤ e) bs
-  next_near q h = near_at (at bs q) (old-kept q h) (most q h)
+  next_near q h = near_at (at bs q) (old_kept q h) (most q h)
 
   kept_at : (b : Bound) → (b.base ≡ u) ⊎ (excess old b ≤ℤ pos 0) → excess row b ≤ℤ e → (num row b.term ≡ num old b.term) ⊎ (excess row b ≤ℤ pos 0) → (num (set row t v) b.term ≡ num old b.term) ⊎ (excess (set row t v) b ≤ℤ pos 0)
   kept_at b o h g =
@@ -100,5 +100,5 @@ module _ (bs : List Bound) (u : ℕ) (old row : List ℤ) (gap : ℤ) (s : Settl
     lower = next_lower;
     apart = next_apart;
     near = next_near;
-    kept = λ q h. kept_at (at bs q) (old-kept q h) (most q h) (s.kept q h);
+    kept = λ q h. kept_at (at bs q) (old_kept q h) (most q h) (s.kept q h);
   }

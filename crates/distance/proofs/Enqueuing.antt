@@ -63,12 +63,12 @@ module _ (row : List ℤ) (bs : List Bound) (x : ℕ) where
         sym (length-append items (broken_on row bs x link)) ∙ ap length w.whole ∙ length-append old (broken_on row bs x (length bs)) in
         omega (arith, a, ap length (opened t))
 
-    module _ (next : ℕ) (next-is : next ≡ latest bs (link - 1) (at bs (link - 1)).base) where
+    module _ (next : ℕ) (next_is : next ≡ latest bs (link - 1) (at bs (link - 1)).base) where
       at_x : next ≡ latest bs (link - 1) x
-      at_x = next-is ∙ ap (latest bs (link - 1)) (w.on some)
+      at_x = next_is ∙ ap (latest bs (link - 1)) (w.on some)
 
       pub walk_less : next < link
-      walk_less = omega (arith, some, next-is, latest_le bs (link - 1) (at bs (link - 1)).base)
+      walk_less = omega (arith, some, next_is, latest_le bs (link - 1) (at bs (link - 1)).base)
 
       rest : broken_on row bs x next ≡ broken_on row bs x (link - 1)
       rest = ap (broken_on row bs x) at_x ∙ sym (to_latest (link - 1))

@@ -51,7 +51,7 @@ heads_none m heads e x h =
 -- ---- one bound more
 
 module _ (bs : List Bound) (b : Bound) (heads nexts : List ℕ) (hs : Heads bs (length bs) heads) (ns : Nexts bs nexts)
-    (base-in : b.base < length heads) (room : length bs < length nexts) where
+    (base_in : b.base < length heads) (room : length bs < length nexts) where
   front : (q : ℕ) → q < length bs → at (bs ++ b ∷ []) q ≡ at bs q
   front q l = get_or_append_left bs (b ∷ []) no_bound q l
 
@@ -61,7 +61,7 @@ module _ (bs : List Bound) (b : Bound) (heads nexts : List ℕ) (hs : Heads bs (
   heads_more : Heads (bs ++ b ∷ []) (length (bs ++ b ∷ [])) (set heads b.base (length bs + 1))
   heads_more x h =
       ⊎_elim
-      (λ (e : x ≡ b.base). ap (λ k. get_or (set heads b.base (length bs + 1)) k 0) e ∙ get_or-set_same heads b.base (length bs + 1) 0 base-in
+      (λ (e : x ≡ b.base). ap (λ k. get_or (set heads b.base (length bs + 1)) k 0) e ∙ get_or-set_same heads b.base (length bs + 1) 0 base_in
       ∙ sym (latest_here (bs ++ b ∷ []) (length bs) x (here ∙ sym e)))
       (λ (ne : x ≡ b.base → ⊥). get_or-set_other heads b.base x (length bs + 1) 0 ne
       ∙ hs x (omega (arith, h, length-set heads b.base (length bs + 1)))
@@ -73,7 +73,7 @@ module _ (bs : List Bound) (b : Bound) (heads nexts : List ℕ) (hs : Heads bs (
   nexts_more q h =
       ⊎_elim
       (λ (e : q ≡ length bs). ap (λ k. get_or (set nexts (length bs) (get_or heads b.base 0)) k 0) e
-      ∙ get_or-set_same nexts (length bs) (get_or heads b.base 0) 0 room ∙ hs b.base base-in
+      ∙ get_or-set_same nexts (length bs) (get_or heads b.base 0) 0 room ∙ hs b.base base_in
       ∙ ap (latest bs (length bs)) (sym here) ∙ sym (latest_same (bs ++ b ∷ []) bs (length bs) _ front)
       ∙ ap (λ n. latest (bs ++ b ∷ []) n (at (bs ++ b ∷ []) n).base) (sym e))
       (λ (ne : q ≡ length bs → ⊥).

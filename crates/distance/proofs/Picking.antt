@@ -83,9 +83,9 @@ best_worst row bs qs p far b covers =
 -- ---- along the queue
 
 pub best_next : {row : List ℤ} {bs : List Bound} {p q : ℕ} {far over : ℤ} {r : ℕ × ℤ} (qs : List ℕ) (i : ℕ) → Best row bs (take i qs) p far → i < length qs → q ≡ get_or qs i 0 → q < length bs → over ≡ excess row (at bs q) → Leading (p, far) (q, over) r → (v : ℤ) → v ≡ r.1 → Best row bs (take (i + 1) qs) r.0 v
-best_next {row} {bs} {p} {q} {far} {over} {r} qs i b l q_is within e lead v v-is =
+best_next {row} {bs} {p} {q} {far} {over} {r} qs i b l q_is within e lead v v_is =
     subst (λ z. Best row bs z r.0 v) (ap (λ k. take i qs ++ k ∷ []) q_is ∙ sym (take_more qs i 0 l))
-    (subst (λ z. Best row bs (take i qs ++ q ∷ []) r.0 z) (sym v-is) (best_more row bs (take i qs) p far q over r b within e lead))
+    (subst (λ z. Best row bs (take i qs ++ q ∷ []) r.0 z) (sym v_is) (best_more row bs (take i qs) p far q over r b within e lead))
 
 pub best_end : {row : List ℤ} {bs : List Bound} {p : ℕ} {far : ℤ} (qs : List ℕ) (i : ℕ) → Best row bs (take i qs) p far → length qs ≤ i → Covers row bs qs → (p, far) ≡ worst row bs
 best_end {row} {bs} {p} {far} qs i b l covers = best_worst row bs qs p far (subst (λ z. Best row bs z p far) (take_all i qs l) b) covers

@@ -19,9 +19,9 @@ pub record Running (bs : List Bound) (u : ℕ) (old row : List ℤ) (steps qs : 
   pub waiting : Waiting row bs qs
 
 module _ (bs : List Bound) (u : ℕ) (old : List ℤ) (some : 0 < length bs) (named : Named (length old) bs)
-    (u-is : u ≡ (at bs (length bs - 1)).base) (before : outcome (length old) (take (length bs - 1) bs) ≡ fits old) where
+    (u_is : u ≡ (at bs (length bs - 1)).base) (before : outcome (length old) (take (length bs - 1) bs) ≡ fits old) where
   start : Start (length old) bs u old
-  start = subst (λ z. Start (length old) bs z old) (sym u-is) (front_start (length old) bs old some named before)
+  start = subst (λ z. Start (length old) bs z old) (sym u_is) (front_start (length old) bs old some named before)
 
   pub run_start : Running bs u old old [] ((length bs - 1) ∷ [])
   run_start = record {
@@ -31,12 +31,12 @@ module _ (bs : List Bound) (u : ℕ) (old : List ℤ) (some : 0 < length bs) (na
   }
 
   module _ (row : List ℤ) (steps qs : List ℕ) (g : Running bs u old row steps qs)
-      (p : ℕ) (p-is : p ≡ (worst row bs).0) (broken : pos 0 <ℤ (worst row bs).1) (free : (at bs p).term ≡ u → ⊥) where
+      (p : ℕ) (p_is : p ≡ (worst row bs).0) (broken : pos 0 <ℤ (worst row bs).1) (free : (at bs p).term ≡ u → ⊥) where
     within : p < length bs
-    within = omega (arith, (worst_is row bs broken).0, p-is)
+    within = omega (arith, (worst_is row bs broken).0, p_is)
 
     far_is : (worst row bs).1 ≡ excess row (at bs p)
-    far_is = (worst_is row bs broken).1 ∙ ap (λ n. excess row (at bs n)) (sym p-is)
+    far_is = (worst_is row bs broken).1 ∙ ap (λ n. excess row (at bs n)) (sym p_is)
 
     same : num row (at bs p).term ≡ num old (at bs p).term
     same = was_old (length old) bs u old start row steps g.gap g.goes p (worst row bs).1 within far_is broken (bounds row 0 (0, pos 0) bs) free

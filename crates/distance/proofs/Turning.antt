@@ -44,13 +44,13 @@ module _ (bs : List Bound) (u : ℕ) (old row : List ℤ) (steps : List ℕ) (do
       let t : lt_z (pos 0) (worst row bs).1 ≡ false = grind (arith, ints) in
       g.whole ∙ settle_more bs u left row steps h ∙ cond-false (lt_z (pos 0) (worst row bs).1) _ (fits row) t
 
-  module _ (p : ℕ) (h : 0 < left) (p-is : p ≡ (worst row bs).0) (broken : pos 0 <ℤ (worst row bs).1) where
+  module _ (p : ℕ) (h : 0 < left) (p_is : p ≡ (worst row bs).0) (broken : pos 0 <ℤ (worst row bs).1) where
     pub turn_within : p < length bs
-    turn_within = omega (arith, (worst_is row bs broken).0, p-is)
+    turn_within = omega (arith, (worst_is row bs broken).0, p_is)
 
     pub turn_broken : pos 0 <ℤ excess row (at bs p)
     turn_broken =
-        let e : excess row (at bs p) ≡ excess row (at bs (worst row bs).0) = ap (λ n. excess row (at bs n)) p-is in
+        let e : excess row (at bs p) ≡ excess row (at bs (worst row bs).0) = ap (λ n. excess row (at bs n)) p_is in
         omega (arith, ints, (worst_is row bs broken).1, broken, e)
 
     inner : ℕ → Outcome
@@ -60,7 +60,7 @@ module _ (bs : List Bound) (u : ℕ) (old row : List ℤ) (steps : List ℕ) (do
     unfolding turn inner
     opened =
         let t : lt_z (pos 0) (worst row bs).1 ≡ true = grind (arith, ints) in
-        g.whole ∙ settle_more bs u left row steps h ∙ cond-true (lt_z (pos 0) (worst row bs).1) (inner (worst row bs).0) (fits row) t ∙ ap inner (sym p-is)
+        g.whole ∙ settle_more bs u left row steps h ∙ cond-true (lt_z (pos 0) (worst row bs).1) (inner (worst row bs).0) (fits row) t ∙ ap inner (sym p_is)
 
     pub turn_clash : (at bs p).term ≡ u → settle bs u (length old + 1) old [] ≡ clash (core bs steps p)
     unfolding inner

@@ -97,9 +97,9 @@ merge_room ts ss n a b reason f ha hb ne r =
 pub ran_still : (ts : List Term) (ss : List Step) (n : ℕ) (rows : List ℕ) (log : List Step) → until ss n ≡ log → Ready ts ss n rows → Ran ts ss n ss n rows log
 ran_still ts ss n rows log e r = record { log_is = e; before = λ j h. refl; rise = omega arith; ready = r }
 
-pub ran_on : (ts : List Term) (ss rs qs : List Step) (from n to : ℕ) (mid-rows rows : List ℕ) (mid log : List Step)
-    → Ran ts ss from rs n mid-rows mid → Ran ts rs n qs to rows log → Ran ts ss from qs to rows log
-ran_on ts ss rs qs from n to mid-rows rows mid log x y = record {
+pub ran_on : (ts : List Term) (ss rs qs : List Step) (from n to : ℕ) (mid_rows rows : List ℕ) (mid log : List Step)
+    → Ran ts ss from rs n mid_rows mid → Ran ts rs n qs to rows log → Ran ts ss from qs to rows log
+ran_on ts ss rs qs from n to mid_rows rows mid log x y = record {
   log_is = y.log_is;
   before = λ j h. y.before j (omega (arith, h, x.rise)) ∙ x.before j h;
   rise = omega (arith, x.rise, y.rise);

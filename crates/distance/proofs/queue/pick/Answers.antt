@@ -13,8 +13,8 @@ use Rattle.distance.proofs.queue.pick.Goals.{After-index-q, After-excess-over, t
 pub loop-i-init : goal.loop-i-init
 loop-i-init c = (search rules, best_none c.args.row.now c.args.bounds.now, refl)
 
-i-in : (c : goal.After-index-q) → c.loop-i.i < length (vec_items c.args.queue.now)
-i-in c = omega (arith, c.loop-i-test.true, c.len-i-end.ensures, c.args.queue.now.ok.0)
+i_in : (c : goal.After-index-q) → c.loop-i.i < length (vec_items c.args.queue.now)
+i_in c = omega (arith, c.loop-i-test.true, c.len-i-end.ensures, c.args.queue.now.ok.0)
 
 -- the position is as it was in the queue at the start
 q_is : (c : goal.After-index-q) → c.index-q.result.now ≡ get_or (vec_items c.args.queue.now) c.loop-i.i 0
@@ -23,43 +23,43 @@ q_is c =
     let ys = vec_items c.loop-i.queue in
     let i : ℕ = c.loop-i.i in
     let z : i + 0 ≡ i = omega arith in
-    get_or_read ys i c.index-q.result.now (omega (arith, i-in c, c.loop-i.invariant.0.long)) c.index-q.ensures 0
+    get_or_read ys i c.index-q.result.now (omega (arith, i_in c, c.loop-i.invariant.0.long)) c.index-q.ensures 0
     ∙ ap (λ k. get_or ys k 0) (sym z) ∙ sym (get_or-drop i ys 0 0) ∙ ap (λ l. get_or l 0 0) c.loop-i.invariant.0.rest ∙ get_or-drop i xs 0 0 ∙ ap (λ k. get_or xs k 0) z
 
-q-in : (c : goal.After-index-q) → c.index-q.result.now < length c.args.bounds.now
-q-in c =
+q_in : (c : goal.After-index-q) → c.index-q.result.now < length c.args.bounds.now
+q_in c =
     subst (λ q. q < length c.args.bounds.now) (sym (q_is c))
-    (All-get_or (λ q. q < length c.args.bounds.now) (vec_items c.args.queue.now) c.loop-i.i 0 (i-in c) c.requires.positions)
+    (All-get_or (λ q. q < length c.args.bounds.now) (vec_items c.args.queue.now) c.loop-i.i 0 (i_in c) c.requires.positions)
 
 pub offset_bounds-bounds-q : goal.offset_bounds-bounds-q
-offset_bounds-bounds-q c = omega (arith, q-in (goal.at.offset_bounds-bounds-q c).After-index-q, c.requires.few)
+offset_bounds-bounds-q c = omega (arith, q_in (goal.at.offset_bounds-bounds-q c).After-index-q, c.requires.few)
 
 pub bounds-bounds-q : goal.bounds-bounds-q
-bounds-bounds-q c = q-in (goal.at.bounds-bounds-q c).After-index-q
+bounds-bounds-q c = q_in (goal.at.bounds-bounds-q c).After-index-q
 
 pub excess-over-requires : goal.excess-over-requires
 excess-over-requires c =
-    let h = q-in (goal.at.excess-over-requires c).After-index-q in
+    let h = q_in (goal.at.excess-over-requires c).After-index-q in
     record { within = c.requires.named c.index-q.result.now h; small = c.requires.small c.index-q.result.now h; inside = c.requires.inside }
 
 pub index_mut-requires : goal.index_mut-requires
 index_mut-requires c =
-    omega (arith, i-in (goal.at.index_mut-requires c).After-index-q, c.loop-i.invariant.0.behind, c.loop-i.invariant.0.long, c.loop-i.queue.ok.0)
+    omega (arith, i_in (goal.at.index_mut-requires c).After-index-q, c.loop-i.invariant.0.behind, c.loop-i.invariant.0.long, c.loop-i.queue.ok.0)
 
 pub overflow_add-count : goal.overflow_add-count
 overflow_add-count c = omega (arith, c.loop-i.invariant.0.behind, c.loop-i-test.true, c.len-i-end.type_inv)
 
-over-is : (c : goal.After-excess-over) → to_z w64 (of_z w64 c.excess-over.result) ≡ excess c.args.row.now (at c.args.bounds.now c.index-q.result.now)
-over-is c = let v : to_z w64 (of_z w64 c.excess-over.result) ≡ c.excess-over.result = omega (arith, ints, c.excess-over.type_inv) in v ∙ c.excess-over.ensures
+over_is : (c : goal.After-excess-over) → to_z w64 (of_z w64 c.excess-over.result) ≡ excess c.args.row.now (at c.args.bounds.now c.index-q.result.now)
+over_is c = let v : to_z w64 (of_z w64 c.excess-over.result) ≡ c.excess-over.result = omega (arith, ints, c.excess-over.type_inv) in v ∙ c.excess-over.ensures
 
 pub loop-i-preserved : goal.loop-i-preserved
 loop-i-preserved c =
     let d = (goal.at.loop-i-preserved c).After-index-q in
-    let o = over-is (goal.at.loop-i-preserved c).After-excess-over in
+    let o = over_is (goal.at.loop-i-preserved c).After-excess-over in
     let f : SFits w64 c.lead-best.result.1 = search rules in
     let v : to_z w64 (of_z w64 c.lead-best.result.1) ≡ c.lead-best.result.1 = to_z-of_z w64 c.lead-best.result.1 f in
-    let l = i-in d in
-    let best = best_next (vec_items c.args.queue.now) c.loop-i.i c.loop-i.invariant.1 l (q_is d) (q-in d) o c.lead-best.ensures (to_z w64 (of_z w64 c.lead-best.result.1)) v in
+    let l = i_in d in
+    let best = best_next (vec_items c.args.queue.now) c.loop-i.i c.loop-i.invariant.1 l (q_is d) (q_in d) o c.lead-best.ensures (to_z w64 (of_z w64 c.lead-best.result.1)) v in
     let l' : c.loop-i.i < length (vec_items c.loop-i.queue) = omega (arith, l, c.loop-i.invariant.0.long) in
     elim c.if-over-gt0.branch [
       | then-over-gt0 w ↦ (

@@ -24,18 +24,18 @@ offset_bounds-bounds-q c = omega (arith, step_in c, c.requires.few)
 pub bounds-bounds-q : goal.bounds-bounds-q
 bounds-bounds-q c = step_in c
 
-mark-in : (c : goal.Then-b-x) → get_or c.args.steps.now (c.loop-k.k - 1) 0 < length c.loop-k.marks
-mark-in c =
+mark_in : (c : goal.Then-b-x) → get_or c.args.steps.now (c.loop-k.k - 1) 0 < length c.loop-k.marks
+mark_in c =
     let h : get_or c.args.steps.now (c.loop-k.k - 1) 0 < length c.args.bounds.now =
     All-get_or (λ q. q < length c.args.bounds.now) c.args.steps.now (c.loop-k.k - 1) 0 (omega (arith, c.loop-k.invariant.1, c.loop-k-test.true)) c.requires.positions in
     omega (arith, h, c.requires.long, c.loop-k.auto.marks, length-set c.fill.new.self c.args.p true, c.fill.ensures.len)
 
 pub bounds-marks-q : goal.bounds-marks-q
-bounds-marks-q c = mark-in c
+bounds-marks-q c = mark_in c
 
 pub loop-k-preserved-then-b-x : goal.loop-k-preserved-then-b-x
 loop-k-preserved-then-b-x c = (
-  λ q. sym (back_then c.args.bounds.now c.args.steps.now c.loop-k.k c.loop-k.x c.loop-k-test.true c.loop-k.marks q c.if-b-x.true (mark-in c)) ∙ c.loop-k.invariant.0 q,
+  λ q. sym (back_then c.args.bounds.now c.args.steps.now c.loop-k.k c.loop-k.x c.loop-k-test.true c.loop-k.marks q c.if-b-x.true (mark_in c)) ∙ c.loop-k.invariant.0 q,
   omega (arith, c.loop-k.invariant.1),
 )
 

@@ -64,29 +64,29 @@ returns-then-far-le0 c =
       capacity = capacities (goal.at.returns-then-far-le0 c).After-pick-p;
     }
 
-p-in : (c : goal.Else-far-le0) → c.pick-p.result.0 < length c.args.bounds.now
-p-in c =
+p_in : (c : goal.Else-far-le0) → c.pick-p.result.0 < length c.args.bounds.now
+p_in c =
     turn_within c.args.bounds.now c.args.last c.args.row.now c.loop-left.row (vec_items c.loop-left.steps) (vec_len c.loop-left.steps) c.loop-left.left c.loop-left.invariant.0
     c.pick-p.result.0 c.loop-left-test.true (ap (λ q. q.0) c.pick-p.ensures.worst) (far_is c)
 
 pub offset_bounds-bounds-p : goal.offset_bounds-bounds-p
-offset_bounds-bounds-p c = omega (arith, p-in c, c.requires.few.1.0)
+offset_bounds-bounds-p c = omega (arith, p_in c, c.requires.few.1.0)
 
 pub bounds-bounds-p : goal.bounds-bounds-p
-bounds-bounds-p c = p-in c
+bounds-bounds-p c = p_in c
 
 pub returns-then-b-last : goal.returns-then-b-last
 returns-then-b-last c = record {
   settles = turn_clash c.args.bounds.now c.args.last c.args.row.now c.loop-left.row (vec_items c.loop-left.steps) (vec_len c.loop-left.steps) c.loop-left.left c.loop-left.invariant.0
       c.pick-p.result.0 c.loop-left-test.true (ap (λ q. q.0) c.pick-p.ensures.worst) (far_is (goal.at.returns-then-b-last c).Else-far-le0) c.if-b-last.true;
-  within = p-in (goal.at.returns-then-b-last c).Else-far-le0;
+  within = p_in (goal.at.returns-then-b-last c).Else-far-le0;
   positions = c.loop-left.invariant.0.positions;
   capacity = capacities (goal.at.returns-then-b-last c).After-pick-p;
 }
 
 pub limit-low-requires : goal.limit-low-requires
 limit-low-requires c =
-    let h : _ = p-in (goal.at.limit-low-requires c).Else-far-le0 in
+    let h : _ = p_in (goal.at.limit-low-requires c).Else-far-le0 in
     record {
       within = omega (arith, (c.requires.named c.pick-p.result.0 h).1, c.loop-left.auto.row);
       small = c.requires.small c.pick-p.result.0 h;
@@ -95,12 +95,12 @@ limit-low-requires c =
 
 pub offset_bounds-row-b : goal.offset_bounds-row-b
 offset_bounds-row-b c =
-    let f : _ = c.requires.named c.pick-p.result.0 (p-in (goal.at.offset_bounds-row-b c).Else-far-le0) in
+    let f : _ = c.requires.named c.pick-p.result.0 (p_in (goal.at.offset_bounds-row-b c).Else-far-le0) in
     omega (arith, f.0, c.requires.few.0)
 
 pub bounds-row-b : goal.bounds-row-b
 bounds-row-b c =
-    let f : _ = c.requires.named c.pick-p.result.0 (p-in (goal.at.bounds-row-b c).Else-far-le0) in
+    let f : _ = c.requires.named c.pick-p.result.0 (p_in (goal.at.bounds-row-b c).Else-far-le0) in
     omega (arith, f.0, c.loop-left.auto.row)
 
 pub push_reserved-requires-in-loop-left : goal.push_reserved-requires-in-loop-left
@@ -128,8 +128,8 @@ ran c =
     c.loop-left.row (vec_items c.loop-left.steps) (vec_items c.loop-left.queue) c.loop-left.invariant.1
     c.pick-p.result.0 (ap (λ q. q.0) c.pick-p.ensures.worst) (far_is (goal.at.Else-b-last c).Else-far-le0) c.if-b-last.false
 
-fits-room : (c : goal.Else-b-last) → length (vec_items c.pick-p.new.queue) + length (coming c) ≤ vec_capacity c.pick-p.new.queue
-fits-room c =
+fits_room : (c : goal.Else-b-last) → length (vec_items c.pick-p.new.queue) + length (coming c) ≤ vec_capacity c.pick-p.new.queue
+fits_room c =
     let r = run_room c.args.bounds.now c.args.last c.args.row.now c.requires.few.1.1 c.requires.named c.requires.last c.requires.before
     c.loop-left.row (vec_items c.loop-left.steps) (vec_items c.loop-left.queue) c.loop-left.invariant.1
     c.pick-p.result.0 (ap (λ q. q.0) c.pick-p.ensures.worst) (far_is (goal.at.Else-b-last c).Else-far-le0) c.if-b-last.false in
@@ -147,7 +147,7 @@ enqueue-requires c =
     let x : ℕ = (at c.args.bounds.now c.pick-p.result.0).term in
     let v = written (goal.at.enqueue-requires c).After-limit-low in
     let l = length-set row x (to_z w64 (of_z w64 c.limit-low.result)) in
-    let f : _ = c.requires.named c.pick-p.result.0 (p-in (goal.at.enqueue-requires c).Else-far-le0) in
+    let f : _ = c.requires.named c.pick-p.result.0 (p_in (goal.at.enqueue-requires c).Else-far-le0) in
     record {
       named = λ p h. let g : _ = c.requires.named p h in (omega (arith, g.0, l, c.loop-left.auto.row), omega (arith, g.1, l, c.loop-left.auto.row));
       small = c.requires.small;
@@ -155,7 +155,7 @@ enqueue-requires c =
       inside = subst (λ z. Inside 40000 (set row x z)) (sym v) (turn_inside (turned d) c.requires.few.0);
       index = c.requires.index.0;
       within = omega (arith, f.0, c.requires.index.1);
-      room = subst (λ z. length (vec_items c.pick-p.new.queue) + length (broken_on (set row x z) bs x (length bs)) ≤ vec_capacity c.pick-p.new.queue) (sym v) (fits-room d);
+      room = subst (λ z. length (vec_items c.pick-p.new.queue) + length (broken_on (set row x z) bs x (length bs)) ≤ vec_capacity c.pick-p.new.queue) (sym v) (fits_room d);
     }
 
 pub loop-left-preserved : goal.loop-left-preserved

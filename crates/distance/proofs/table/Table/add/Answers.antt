@@ -10,8 +10,8 @@ free : (c : goal.After-push_reserved) → length (vec_items c.args.self.now.boun
 free c = omega (arith, c.requires.room, c.args.self.now.bounds.ok.0)
 
 -- the index with the bound
-now-indexed : (c : goal.After-push_reserved) → Indexed (vec_items c.push_reserved.new.self) c.enter.new.self
-now-indexed c =
+now_indexed : (c : goal.After-push_reserved) → Indexed (vec_items c.push_reserved.new.self) c.enter.new.self
+now_indexed c =
     let e : c.deref.result.now ++ c.args.b ∷ [] ≡ vec_items c.push_reserved.new.self = ap (λ z. z ++ c.args.b ∷ []) c.deref.ensures.value ∙ sym c.push_reserved.ensures.items in
     subst (λ z. Indexed z c.enter.new.self) e c.enter.ensures.index
 
@@ -23,7 +23,7 @@ extend-requires c =
     let r = ready s.terms s.most (vec_items s.bounds) (vec_items s.rows) s.good (vec_items s.marks) c.args.b (held s) (free (goal.at.extend-requires c).After-push_reserved) c.requires.named c.requires.small
     all c.deref-then-possible.result.now (length c.deref_mut-then-possible.result.now) c.deref_mut.result.now
     (c.deref-then-possible.ensures.value ∙ c.push_reserved.ensures.items) ew c.deref_mut.ensures.value in
-    let i = now-indexed (goal.at.extend-requires c).After-push_reserved in
+    let i = now_indexed (goal.at.extend-requires c).After-push_reserved in
     let B : vec_items c.push_reserved.new.self ≡ c.deref-then-possible.result.now = sym c.deref-then-possible.ensures.value in
     record {
       named = r.named;
@@ -69,14 +69,36 @@ invariant_of-self c =
     let s = c.args.self.now in
     let t = subst (λ r. Held s.terms s.most (vec_items c.push_reserved.new.self) (with_items s.rows c.extend.new.rows).items (reach s.good r) (with_items s.marks c.extend.new.marks).items)
     c.if-extend.true (extended (goal.at.invariant_of-self c).After-extend) in
-    let i = now-indexed (goal.at.invariant_of-self c).After-push_reserved in record { few = t.few; named = t.named; small = t.small; possible = t.possible; broken = t.broken; lengths = t.lengths; indexed = i; wide = (c.enter.ensures.same.0 ∙ s.wide.0, c.enter.ensures.same.1 ∙ s.wide.1, omega (arith, c.extend.ensures.capacity.1, s.wide.2)); room = (omega (arith, c.push_reserved.ensures.capacity, s.room.0), omega (arith, c.extend.ensures.capacity.0, s.room.1), sym (with_items s.work c.extend.new.work).ok.0 ∙ s.work.ok.0 ∙ s.room.2) }
+    let i = now_indexed (goal.at.invariant_of-self c).After-push_reserved in
+    record {
+      few = t.few;
+      named = t.named;
+      small = t.small;
+      possible = t.possible;
+      broken = t.broken;
+      lengths = t.lengths;
+      indexed = i;
+      wide = (c.enter.ensures.same.0 ∙ s.wide.0, c.enter.ensures.same.1 ∙ s.wide.1, omega (arith, c.extend.ensures.capacity.1, s.wide.2));
+      room = (omega (arith, c.push_reserved.ensures.capacity, s.room.0), omega (arith, c.extend.ensures.capacity.0, s.room.1), sym (with_items s.work c.extend.new.work).ok.0 ∙ s.work.ok.0 ∙ s.room.2);
+    }
 
 pub invariant_of-self-else-extend : goal.invariant_of-self-else-extend
 invariant_of-self-else-extend c =
     let s = c.args.self.now in
     let t = subst (λ r. Held s.terms s.most (vec_items c.push_reserved.new.self) (with_items s.rows c.extend.new.rows).items (reach s.good r) (with_items s.marks c.extend.new.marks).items)
     c.if-extend.false (extended (goal.at.invariant_of-self-else-extend c).After-extend) in
-    let i = now-indexed (goal.at.invariant_of-self-else-extend c).After-push_reserved in record { few = t.few; named = t.named; small = t.small; possible = t.possible; broken = t.broken; lengths = t.lengths; indexed = i; wide = (c.enter.ensures.same.0 ∙ s.wide.0, c.enter.ensures.same.1 ∙ s.wide.1, omega (arith, c.extend.ensures.capacity.1, s.wide.2)); room = (omega (arith, c.push_reserved.ensures.capacity, s.room.0), omega (arith, c.extend.ensures.capacity.0, s.room.1), sym (with_items s.work c.extend.new.work).ok.0 ∙ s.work.ok.0 ∙ s.room.2) }
+    let i = now_indexed (goal.at.invariant_of-self-else-extend c).After-push_reserved in
+    record {
+      few = t.few;
+      named = t.named;
+      small = t.small;
+      possible = t.possible;
+      broken = t.broken;
+      lengths = t.lengths;
+      indexed = i;
+      wide = (c.enter.ensures.same.0 ∙ s.wide.0, c.enter.ensures.same.1 ∙ s.wide.1, omega (arith, c.extend.ensures.capacity.1, s.wide.2));
+      room = (omega (arith, c.push_reserved.ensures.capacity, s.room.0), omega (arith, c.extend.ensures.capacity.0, s.room.1), sym (with_items s.work c.extend.new.work).ok.0 ∙ s.work.ok.0 ∙ s.room.2);
+    }
 
 pub invariant_of-self-else-possible : goal.invariant_of-self-else-possible
 invariant_of-self-else-possible c =
@@ -84,5 +106,15 @@ invariant_of-self-else-possible c =
     let some : s.good < length (vec_items s.bounds) = omega (arith, c.if-possible.false, c.len.ensures, s.bounds.ok.0, s.lengths.0) in
     let t = subst (λ z. Held s.terms s.most z (vec_items s.rows) s.good (vec_items s.marks)) (sym c.push_reserved.ensures.items)
     (held_more s.terms s.most (vec_items s.bounds) (vec_items s.rows) s.good (vec_items s.marks) c.args.b (held s) (free (goal.at.invariant_of-self-else-possible c).After-push_reserved) c.requires.named c.requires.small some) in
-    let i = now-indexed (goal.at.invariant_of-self-else-possible c).After-push_reserved in
-    record { few = t.few; named = t.named; small = t.small; possible = t.possible; broken = t.broken; lengths = t.lengths; indexed = i; wide = (c.enter.ensures.same.0 ∙ s.wide.0, c.enter.ensures.same.1 ∙ s.wide.1, s.wide.2); room = (omega (arith, c.push_reserved.ensures.capacity, s.room.0), s.room.1, s.room.2) }
+    let i = now_indexed (goal.at.invariant_of-self-else-possible c).After-push_reserved in
+    record {
+      few = t.few;
+      named = t.named;
+      small = t.small;
+      possible = t.possible;
+      broken = t.broken;
+      lengths = t.lengths;
+      indexed = i;
+      wide = (c.enter.ensures.same.0 ∙ s.wide.0, c.enter.ensures.same.1 ∙ s.wide.1, s.wide.2);
+      room = (omega (arith, c.push_reserved.ensures.capacity, s.room.0), s.room.1, s.room.2);
+    }

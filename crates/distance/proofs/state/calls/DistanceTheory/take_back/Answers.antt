@@ -18,4 +18,13 @@ invariant_of-self c =
     let proper = proper_take (length claims) c.args.k (vec_items s.list) (record { below = s.below; apart_claims = s.distinct }) in
     let left : Proper (length claims) (vec_items c.truncate.new.self) = subst (Proper (length claims)) (sym c.truncate.ensures.items) proper in
     let says = c.cut.ensures.list ∙ ap (take c.args.k) s.says ∙ take-map (bound_of claims) c.args.k (vec_items s.list) ∙ ap (said claims) (sym c.truncate.ensures.items) in
-    record { few = s.few; named = subst (λ m. Named m claims) (sym c.cut.ensures.same.0) s.named; range = s.range; room = omega (arith, c.truncate.ensures.capacity, s.room); most = c.cut.ensures.same.1 ∙ s.most; below = left.below; distinct = left.apart_claims; says = says }
+    record {
+      few = s.few;
+      named = subst (λ m. Named m claims) (sym c.cut.ensures.same.0) s.named;
+      range = s.range;
+      room = omega (arith, c.truncate.ensures.capacity, s.room);
+      most = c.cut.ensures.same.1 ∙ s.most;
+      below = left.below;
+      distinct = left.apart_claims;
+      says = says;
+    }

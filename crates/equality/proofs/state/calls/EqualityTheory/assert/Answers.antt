@@ -116,7 +116,25 @@ invariant_of-self-2 c =
     let s = c.args.self.now in
     let h = stored s c.args.l c.index.result.now c.absorb-count.result c.deref.result.now c.deref_mut.result.now c.absorb-count.new.steps c.absorb-count.new.rows
     c.deref_mut.ensures.value c.index.ensures c.if-l-self.false c.deref.ensures.value (sym c.if-names.false ∙ c.names.ensures) c.absorb-count.ensures
-    (c.absorb-count.auto.steps ∙ c.deref_mut.ensures.len) (c.absorb-count.auto.rows ∙ c.deref_mut-2.ensures.len) in record { few = s.few; named = s.named; near_long = s.near_long; indexed = s.indexed; list_long = s.list_long; merges_long = s.merges_long; steps_long = s.steps_long; rows_long = s.rows_long; marks_long = s.marks_long; short = h.short; below = h.proper.below; distinct = h.proper.apart_claims; rising = h.rising; logged = h.logged; tabled = (λ k t p. h.tabled k t p.0 p.1); clear = s.clear }
+    (c.absorb-count.auto.steps ∙ c.deref_mut.ensures.len) (c.absorb-count.auto.rows ∙ c.deref_mut-2.ensures.len) in
+    record {
+      few = s.few;
+      named = s.named;
+      near_long = s.near_long;
+      indexed = s.indexed;
+      list_long = s.list_long;
+      merges_long = s.merges_long;
+      steps_long = s.steps_long;
+      rows_long = s.rows_long;
+      marks_long = s.marks_long;
+      short = h.short;
+      below = h.proper.below;
+      distinct = h.proper.apart_claims;
+      rising = h.rising;
+      logged = h.logged;
+      tabled = λ k t p. h.tabled k t p.0 p.1;
+      clear = s.clear;
+    }
 
 pub returns : goal.returns
 returns c =

@@ -31,4 +31,22 @@ invariant_of-self-in-Some c =
     let s = c.args.self.now in
     let table = c.core-n.new.table in
     let clear : (k : ℕ) → get_or (with_items s.marks table).items k false ≡ false =
-    λ k. ap (λ (xs : List Bool). get_or xs k false) (with_items_is s.marks table (c.core-n.auto.table ∙ c.deref_mut.ensures.len)) ∙ c.core-n.ensures.clear.1 k in record { few = s.few; named = s.named; near_long = s.near_long; indexed = s.indexed; list_long = s.list_long; merges_long = s.merges_long; steps_long = s.steps_long; rows_long = s.rows_long; marks_long = s.marks_long; short = s.short; below = s.below; distinct = s.distinct; rising = s.rising; logged = s.logged; tabled = s.tabled; clear = clear }
+    λ k. ap (λ (xs : List Bool). get_or xs k false) (with_items_is s.marks table (c.core-n.auto.table ∙ c.deref_mut.ensures.len)) ∙ c.core-n.ensures.clear.1 k in
+    record {
+      few = s.few;
+      named = s.named;
+      near_long = s.near_long;
+      indexed = s.indexed;
+      list_long = s.list_long;
+      merges_long = s.merges_long;
+      steps_long = s.steps_long;
+      rows_long = s.rows_long;
+      marks_long = s.marks_long;
+      short = s.short;
+      below = s.below;
+      distinct = s.distinct;
+      rising = s.rising;
+      logged = s.logged;
+      tabled = s.tabled;
+      clear = clear;
+    }

@@ -7,7 +7,25 @@ use Rattle.equality.proofs.state.calls.EqualityTheory.take_back.Goals as goal
 pub invariant_of-self : goal.invariant_of-self
 invariant_of-self c =
     let s = c.args.self.now in
-    let h = held_cut s.terms.records.now s.claims.now (vec_items s.list) s.len (vec_items s.merges) (vec_items s.steps) (vec_items s.rows) (held s) c.args.k c.if-k-self.false in record { few = s.few; named = s.named; near_long = s.near_long; indexed = s.indexed; list_long = s.list_long; merges_long = s.merges_long; steps_long = s.steps_long; rows_long = s.rows_long; marks_long = s.marks_long; short = h.short; below = h.proper.below; distinct = h.proper.apart_claims; rising = h.rising; logged = h.logged; tabled = (λ k t p. h.tabled k t p.0 p.1); clear = s.clear }
+    let h = held_cut s.terms.records.now s.claims.now (vec_items s.list) s.len (vec_items s.merges) (vec_items s.steps) (vec_items s.rows) (held s) c.args.k c.if-k-self.false in
+    record {
+      few = s.few;
+      named = s.named;
+      near_long = s.near_long;
+      indexed = s.indexed;
+      list_long = s.list_long;
+      merges_long = s.merges_long;
+      steps_long = s.steps_long;
+      rows_long = s.rows_long;
+      marks_long = s.marks_long;
+      short = h.short;
+      below = h.proper.below;
+      distinct = h.proper.apart_claims;
+      rising = h.rising;
+      logged = h.logged;
+      tabled = λ k t p. h.tabled k t p.0 p.1;
+      clear = s.clear;
+    }
 
 pub returns : goal.returns
 returns c =
