@@ -9,7 +9,7 @@ use Rattle.theory.specs.declared.term.Term.{Term as TermRecord}
 use Rattle.congruence.specs.declared.claim.Claim.{Claim as ClaimRecord}
 use Rattle.book.specs.declared.contents.Asked.{Asked}
 use Rattle.book.specs.declared.contents.Call.{Call as Calling}
-use Rattle.book.specs.declared.contents.Call.TheVariants.{Assert as assert, TakeBack as takeBack, Query as query, Write as write, Trial as trial, Close as close}
+use Rattle.book.specs.declared.contents.Call.TheVariants.{Assert as assert, TakeBack as take_back, Query as query, Write as write, Trial as trial, Close as close}
 use Rattle.book.specs.declared.fault.Wrong.{Wrong}
 use Rattle.book.specs.declared.fault.Wrong.TheVariants.{TooLarge}
 use Rattle.book.specs.declared.line.Said.{Said}
@@ -84,7 +84,7 @@ length_plain (Some n) h = (number_plain n (small n h), tt)
 
 pub call_plain : (k : Calling) → CallFits k → AllByRecursion Plain (call_line k)
 call_plain (assert l) h = (name_plain (kind Call), (name_plain (ask Assert), (number_plain l (small l h), tt)))
-call_plain (takeBack k) h = (name_plain (kind Call), (name_plain (ask TakeBack), (number_plain k h, tt)))
+call_plain (take_back k) h = (name_plain (kind Call), (name_plain (ask TakeBack), (number_plain k h, tt)))
 call_plain (query len) h = (name_plain (kind Call), (name_plain (ask Query), length_plain len h))
 call_plain (write len) h = (name_plain (kind Call), (name_plain (ask Write), length_plain len h))
 call_plain (trial l) h = (name_plain (kind Call), (name_plain (ask Trial), (number_plain l (small l h), tt)))
@@ -106,7 +106,7 @@ asks r = and_then r (λ asked. Ok (call asked))
 
 pub call_said : (k : Calling) → CallFits k → said_by (words_of (spaced (call_line k))) ≡ Ok (call k)
 call_said (assert l) h = call_words Assert (decimal l ∷ []) (call_plain (assert l) h) ∙ ap (λ w. asks (called_by Assert (w ∷ []))) (number_word l (small l h)) ∙ ap (λ r. asks (and_then r (λ n. Ok (assert n)))) (short_number l h)
-call_said (takeBack k) h = call_words TakeBack (decimal k ∷ []) (call_plain (takeBack k) h) ∙ ap (λ w. asks (called_by TakeBack (w ∷ []))) (number_word k h)
+call_said (take_back k) h = call_words TakeBack (decimal k ∷ []) (call_plain (take_back k) h) ∙ ap (λ w. asks (called_by TakeBack (w ∷ []))) (number_word k h)
 call_said (query len) h = call_words Query (length_word len) (call_plain (query len) h) ∙ ap (λ r. asks (and_then r (λ n. Ok (query n)))) (place_said (ask Query) len h)
 call_said (write len) h = call_words Write (length_word len) (call_plain (write len) h) ∙ ap (λ r. asks (and_then r (λ n. Ok (write n)))) (place_said (ask Write) len h)
 call_said (trial l) h = call_words Trial (decimal l ∷ []) (call_plain (trial l) h) ∙ ap (λ w. asks (called_by Trial (w ∷ []))) (number_word l (small l h)) ∙ ap (λ r. asks (and_then r (λ n. Ok (trial n)))) (short_number l h)

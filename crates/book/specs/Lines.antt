@@ -1,7 +1,7 @@
 -- What the words of a line say. Assumes nothing.
 use Rattle.std.specs.Prelude.{ℕ, min, cond, List, [], ◌∷◌, length, Some, None, Ok, Err, Option, Result, nat_lt, slice_index}
 use Rattle.book.specs.declared.contents.Call.{Call as Calling}
-use Rattle.book.specs.declared.contents.Call.TheVariants.{Assert as assert, TakeBack as takeBack, Query as query, Write as write, Trial as trial, Close as close}
+use Rattle.book.specs.declared.contents.Call.TheVariants.{Assert as assert, TakeBack as take_back, Query as query, Write as write, Trial as trial, Close as close}
 use Rattle.book.specs.declared.fault.Wrong.{Wrong}
 use Rattle.book.specs.declared.fault.Wrong.TheVariants.{NoSuchLine, NoSuchTheory, NoSuchCall, NoNumber, TooLarge, Missing, TooMany}
 use Rattle.book.specs.declared.line.Said.{Said}
@@ -93,7 +93,7 @@ claim_of (a ∷ b ∷ w ∷ ws) = Err (TooMany (kind Claim))
 -- `assert L`, `takeback K`, `query [LEN]`, `write [LEN]`, `trial L`, `close`
 abbrev pub called_by : Ask → List Word → Result Calling Wrong
 called_by Assert ws = and_then (only_of (ask Assert) ws) (λ w. and_then (short_of w) (λ l. Ok (assert l)))
-called_by TakeBack ws = and_then (only_of (ask TakeBack) ws) (λ w. and_then (long_of w) (λ k. Ok (takeBack k)))
+called_by TakeBack ws = and_then (only_of (ask TakeBack) ws) (λ w. and_then (long_of w) (λ k. Ok (take_back k)))
 called_by Query ws = and_then (place_of (ask Query) ws) (λ len. Ok (query len))
 called_by Write ws = and_then (place_of (ask Write) ws) (λ len. Ok (write len))
 called_by Trial ws = and_then (only_of (ask Trial) ws) (λ w. and_then (short_of w) (λ l. Ok (trial l)))

@@ -1,6 +1,5 @@
 //! Calls on any theory, and what they tell, as numbers that a test compares.
 use std::alloc::{AllocError, Global};
-use std::process::Abort;
 use std::test::Fail;
 use theory::literal::complement_of;
 use theory::trial::query_with;
@@ -86,9 +85,17 @@ pub fn query_after<T: Theory + Drop>(
     }
 }
 
+/// Fails a test whose two values differ.
+pub fn agree<T: PartialEq + Drop>(found: T, wanted: T) -> Result<(), Fail> {
+    if found == wanted {
+        Ok(())
+    } else {
+        Err(Fail::new("another answer was wanted"))
+    }
+}
+
 /// Calls at their edges, on three constants and two claims, with places one number too short.
 pub fn at_edges<T: Theory + Drop>(
-    rt: &impl Abort,
     made: Result<T, Unmade>,
     short_core: &mut [u16],
     short_place: &mut [i64],
@@ -96,14 +103,14 @@ pub fn at_edges<T: Theory + Drop>(
 ) -> Result<(), Fail> {
     match made {
         Ok(mut theory) => {
-            assert_eq!(rt; number(theory.assert(4)), 5);
-            assert_eq!(rt; number(theory.assert(3)), 0);
-            assert_eq!(rt; number(theory.assert(2)), 6);
-            assert_eq!(rt; number(theory.take_back(2)), 7);
-            assert_eq!(rt; number(theory.take_back(1)), 0);
-            assert_eq!(rt; found(theory.query(short_core)), 1008);
-            assert_eq!(rt; number(theory.write(short_place)), 9);
-            assert_eq!(rt; number(theory.write(place)), 0);
+            agree(number(theory.assert(4)), 5)?;
+            agree(number(theory.assert(3)), 0)?;
+            agree(number(theory.assert(2)), 6)?;
+            agree(number(theory.take_back(2)), 7)?;
+            agree(number(theory.take_back(1)), 0)?;
+            agree(found(theory.query(short_core)), 1008)?;
+            agree(number(theory.write(short_place)), 9)?;
+            agree(number(theory.write(place)), 0)?;
             Ok(())
         }
         Err(_) => Err(Fail::new("no theory")),
@@ -111,19 +118,15 @@ pub fn at_edges<T: Theory + Drop>(
 }
 
 /// A trial, and one inside it, over three constants and the claims 0 = 1, 1 = 2, 0 = 2.
-pub fn trials<T: Theory + Drop>(
-    rt: &impl Abort,
-    made: Result<T, Unmade>,
-    core: &mut [u16],
-) -> Result<(), Fail> {
+pub fn trials<T: Theory + Drop>(made: Result<T, Unmade>, core: &mut [u16]) -> Result<(), Fail> {
     match made {
         Ok(mut theory) => {
-            assert_eq!(rt; number(theory.assert(0)), 0);
-            assert_eq!(rt; found(query_with(&mut theory, 5, core)), 0);
-            assert_eq!(rt; number(theory.assert(2)), 0);
-            assert_eq!(rt; found(query_with(&mut theory, 5, core)), 3);
-            assert_eq!(rt; found(query_with(&mut theory, 3, core)), 1006);
-            assert_eq!(rt; theory.asserted_len(), 2);
+            agree(number(theory.assert(0)), 0)?;
+            agree(found(query_with(&mut theory, 5, core)), 0)?;
+            agree(number(theory.assert(2)), 0)?;
+            agree(found(query_with(&mut theory, 5, core)), 3)?;
+            agree(found(query_with(&mut theory, 3, core)), 1006)?;
+            agree(theory.asserted_len(), 2)?;
             Ok(())
         }
         Err(_) => Err(Fail::new("no theory")),

@@ -152,7 +152,6 @@ fn edges(rt: HostRuntime) -> Result<(), Fail> {
     let mut short = [5i64; 2];
     let mut place = [5i64; 4];
     at_edges(
-        &rt,
         make(rt.alloc(), &terms, &claims),
         &mut core,
         &mut short,
@@ -169,7 +168,7 @@ fn trial_of_a_denial(rt: HostRuntime) -> Result<(), Fail> {
     let terms = constants(rt.alloc(), 3)?;
     let claims = [apart(0, 1, 0), apart(1, 2, 0), apart(0, 2, 0)];
     let mut core = [9u16; 3];
-    trials(&rt, make(rt.alloc(), &terms, &claims), &mut core)?;
+    trials(make(rt.alloc(), &terms, &claims), &mut core)?;
     assert_eq!(rt; core, [0, 1, 2]);
     Ok(())
 }

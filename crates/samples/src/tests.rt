@@ -1,9 +1,9 @@
 //! Tests of the theories through their interface.
+use crate::calls::agree;
 use book::Unread;
 use congruence::Claim;
 use equality::make;
 use std::alloc::{AllocError, Global};
-use std::process::Abort;
 use std::test::Fail;
 use theory::literal::complement_of;
 use theory::trial::query_with;
@@ -201,7 +201,6 @@ fn limits(rt: HostRuntime) -> Result<(), Fail> {
 
 /// Calls at their edges, on three constants and two claims, with places one number too short.
 fn at_edges<T: Theory + Drop>(
-    rt: &impl Abort,
     made: Result<T, Unmade>,
     short_core: &mut [u16],
     short_place: &mut [i64],
@@ -209,14 +208,14 @@ fn at_edges<T: Theory + Drop>(
 ) -> Result<(), Fail> {
     match made {
         Ok(mut theory) => {
-            assert_eq!(rt; number(theory.assert(4)), 5);
-            assert_eq!(rt; number(theory.assert(3)), 0);
-            assert_eq!(rt; number(theory.assert(2)), 6);
-            assert_eq!(rt; number(theory.take_back(2)), 7);
-            assert_eq!(rt; number(theory.take_back(1)), 0);
-            assert_eq!(rt; found(theory.query(short_core)), 1008);
-            assert_eq!(rt; number(theory.write(short_place)), 9);
-            assert_eq!(rt; number(theory.write(place)), 0);
+            agree(number(theory.assert(4)), 5)?;
+            agree(number(theory.assert(3)), 0)?;
+            agree(number(theory.assert(2)), 6)?;
+            agree(number(theory.take_back(2)), 7)?;
+            agree(number(theory.take_back(1)), 0)?;
+            agree(found(theory.query(short_core)), 1008)?;
+            agree(number(theory.write(short_place)), 9)?;
+            agree(number(theory.write(place)), 0)?;
             Ok(())
         }
         Err(_) => Err(Fail::new("no theory")),
@@ -231,7 +230,6 @@ fn edges(rt: HostRuntime) -> Result<(), Fail> {
     let mut short = [5i64; 2];
     let mut place = [5i64; 4];
     at_edges(
-        &rt,
         make(rt.alloc(), &terms, &claims),
         &mut core,
         &mut short,
@@ -244,19 +242,15 @@ fn edges(rt: HostRuntime) -> Result<(), Fail> {
 }
 
 /// A trial, and one inside it, over three constants and the claims 0 = 1, 1 = 2, 0 = 2.
-fn trials<T: Theory + Drop>(
-    rt: &impl Abort,
-    made: Result<T, Unmade>,
-    core: &mut [u16],
-) -> Result<(), Fail> {
+fn trials<T: Theory + Drop>(made: Result<T, Unmade>, core: &mut [u16]) -> Result<(), Fail> {
     match made {
         Ok(mut theory) => {
-            assert_eq!(rt; number(theory.assert(0)), 0);
-            assert_eq!(rt; found(query_with(&mut theory, 5, core)), 0);
-            assert_eq!(rt; number(theory.assert(2)), 0);
-            assert_eq!(rt; found(query_with(&mut theory, 5, core)), 3);
-            assert_eq!(rt; found(query_with(&mut theory, 3, core)), 1006);
-            assert_eq!(rt; theory.asserted_len(), 2);
+            agree(number(theory.assert(0)), 0)?;
+            agree(found(query_with(&mut theory, 5, core)), 0)?;
+            agree(number(theory.assert(2)), 0)?;
+            agree(found(query_with(&mut theory, 5, core)), 3)?;
+            agree(found(query_with(&mut theory, 3, core)), 1006)?;
+            agree(theory.asserted_len(), 2)?;
             Ok(())
         }
         Err(_) => Err(Fail::new("no theory")),
@@ -268,7 +262,7 @@ fn trial_of_a_denial(rt: HostRuntime) -> Result<(), Fail> {
     let terms = constants(rt.alloc(), 3)?;
     let claims = [same(0, 1), same(1, 2), same(0, 2)];
     let mut core = [9u16; 3];
-    trials(&rt, make(rt.alloc(), &terms, &claims), &mut core)?;
+    trials(make(rt.alloc(), &terms, &claims), &mut core)?;
     assert_eq!(rt; core, [0, 1, 2]);
     Ok(())
 }

@@ -9,12 +9,12 @@ use crate::refusal::{Found, Refusal};
 
 /// A theory: what it means, the literals asserted so far, and the calls.
 ///
-/// `shapeOf` is the part of a value that fixes its meaning. Every call leaves it as it was, so
+/// `shape_of` is the part of a value that fixes its meaning. Every call leaves it as it was, so
 /// that no call changes more than the asserted list.
 pub trait Theory {
     ghost Shape: { Type 0 };
 
-    ghost shapeOf: { Self → Shape };
+    ghost shape_of: { Self → Shape };
 
     // The numbers of claims and terms, the fits, which literals hold in a fit, and what a list of
     // literals is answered.
@@ -24,18 +24,18 @@ pub trait Theory {
     ghost asserted: { Self → List ℕ };
 
     // The law, which each implementation owes.
-    ghost lawful: { (t : Self) → Lawful (means (shapeOf t)) };
+    ghost lawful: { (t : Self) → Lawful (means (shape_of t)) };
 
     // Literals of the theory's claims, no claim twice.
-    ghost proper: { (t : Self) → Proper (means (shapeOf t)).claims (asserted t) };
+    ghost proper: { (t : Self) → Proper (means (shape_of t)).claims (asserted t) };
 
     /// The number of claims.
     fn claims(&self) -> usize
-        ensures { result ≡ (means (shapeOf self.now)).claims };
+        ensures { result ≡ (means (shape_of self.now)).claims };
 
     /// The number of terms.
     fn terms(&self) -> usize
-        ensures { result ≡ (means (shapeOf self.now)).terms };
+        ensures { result ≡ (means (shape_of self.now)).terms };
 
     /// The length of the asserted list.
     fn asserted_len(&self) -> usize
@@ -43,34 +43,34 @@ pub trait Theory {
 
     /// Puts a literal at the list's end.
     fn assert(&mut self, l: Literal) -> Result<(), Refusal>
-        ensures shape { shapeOf self.new ≡ shapeOf self.old }
-        ensures says { reply result ≡ assert_says (means (shapeOf self.old)) (asserted self.old) l }
-        ensures list { asserted self.new ≡ assert_leaves (means (shapeOf self.old)) (asserted self.old) l };
+        ensures shape { shape_of self.new ≡ shape_of self.old }
+        ensures says { reply result ≡ assert_says (means (shape_of self.old)) (asserted self.old) l }
+        ensures list { asserted self.new ≡ assert_leaves (means (shape_of self.old)) (asserted self.old) l };
 
     /// Keeps the first `k` literals of the list.
     fn take_back(&mut self, k: usize) -> Result<(), Refusal>
-        ensures shape { shapeOf self.new ≡ shapeOf self.old }
+        ensures shape { shape_of self.new ≡ shape_of self.old }
         ensures says { reply result ≡ take_back_says (asserted self.old) k }
         ensures list { asserted self.new ≡ take_back_leaves (asserted self.old) k };
 
     /// Answers whether some fit makes every literal of the list hold; if none does, puts a core into the place.
     fn query(&mut self, core: &mut [u16]) -> Result<Found, Refusal>
-        ensures shape { shapeOf self.new ≡ shapeOf self.old }
+        ensures shape { shape_of self.new ≡ shape_of self.old }
         ensures list { asserted self.new ≡ asserted self.old }
-        ensures says { reply result ≡ query_says (means (shapeOf self.old)) (asserted self.old) core.old }
-        ensures place { core.new ≡ query_leaves (means (shapeOf self.old)) (asserted self.old) core.old };
+        ensures says { reply result ≡ query_says (means (shape_of self.old)) (asserted self.old) core.old }
+        ensures place { core.new ≡ query_leaves (means (shape_of self.old)) (asserted self.old) core.old };
 
     /// Puts down a fit in which every literal of the list holds.
     fn write(&mut self, place: &mut [i64]) -> Result<(), Refusal>
-        ensures shape { shapeOf self.new ≡ shapeOf self.old }
+        ensures shape { shape_of self.new ≡ shape_of self.old }
         ensures list { asserted self.new ≡ asserted self.old }
-        ensures says { reply result ≡ write_says (means (shapeOf self.old)) (asserted self.old) place.old }
-        ensures place { place.new ≡ write_leaves (means (shapeOf self.old)) (asserted self.old) place.old };
+        ensures says { reply result ≡ write_says (means (shape_of self.old)) (asserted self.old) place.old }
+        ensures place { place.new ≡ write_leaves (means (shape_of self.old)) (asserted self.old) place.old };
 }
 
 /// What the law gives of every theory: a query answers possible exactly if some fit makes every literal of the list hold.
 pub fn answers_stand<T: Theory>(theory: &T) -> u8
-    ensures { Exact (T.Theory.means (T.Theory.shapeOf theory.now)) }
+    ensures { Exact (T.Theory.means (T.Theory.shape_of theory.now)) }
 {
     0
 }

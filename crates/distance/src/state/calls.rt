@@ -29,7 +29,7 @@ fn bound_of(claims: &[Bound], l: Literal) -> Bound
 impl<'a> Theory for Distance<'a> {
     ghost Shape = { ℕ × List Bound };
 
-    ghost shapeOf = { λ d. (d.table.terms, d.claims.now) };
+    ghost shape_of = { λ d. (d.table.terms, d.claims.now) };
 
     ghost means = { λ s. distances s.0 s.1 };
 

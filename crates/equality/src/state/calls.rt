@@ -14,7 +14,7 @@ use theory::{Found, Literal, Refusal, Theory};
 impl<'a> Theory for Equality<'a> {
     ghost Shape = { List Term × List Claim };
 
-    ghost shapeOf = { λ t. (t.terms.records.now, t.claims.now) };
+    ghost shape_of = { λ t. (t.terms.records.now, t.claims.now) };
 
     ghost means = { λ s. equality s.0 s.1 };
 

@@ -6,7 +6,7 @@ use Rattle.theory.proofs.trial.query_with.Goals as goal
 
 pub returns : goal.returns
 returns g c =
-    let M = g.T.Theory.means (g.T.Theory.shapeOf c.args.theory.now) in
+    let M = g.T.Theory.means (g.T.Theory.shape_of c.args.theory.now) in
     let ls = g.T.Theory.asserted c.args.theory.now in
     let l = c.args.l in
     let tried = g.T.Theory.asserted c.open.new.theory in
