@@ -3,11 +3,12 @@
 
 usage: python3 tools/respell.py [ROOT]      (the top of a checkout that the kit's port.py has turned, once)
 
-A name is our own if a file of specs/ or proofs/ declares it: a definition, a lemma, a field, a constructor. A goal of a
-proof (declared as `: goal.NAME`) has its name from Rattle and keeps it. A dash, and a capital after a small letter,
-becomes `_` and a small letter. Types keep their capitals. Sources keep the names of their functions: only names with a
-dash or such a capital are turned, which no function of src/ has.
-Two names that would fall together stop the script before it writes anything.
+A name is our own if a file of specs/ or proofs/ declares it (a definition, a lemma, a field, a constructor) or takes an
+import under it, or a trait has it as a ghost member. A goal of a proof (declared as `: goal.NAME`) has its name from Rattle
+and keeps it. A dash, and a capital after a small letter, becomes `_` and a small letter. Types keep their capitals. Sources
+keep the names of their functions: only names with a dash or such a capital are turned, which no function of src/ has.
+Two names that would fall together stop the script before it writes anything. What the kit's script imports as `All` is
+not the library's `All`, and goes by its own name, AllByRecursion.
 """
 
 import collections
@@ -18,7 +19,11 @@ import sys
 NAME = r"[^\W\d_][\w'-]*"
 HEAD = re.compile(r"^(?:(?:abbrev|unfoldable|pub|data|record)\s+)*(" + NAME + r")\s*(?=[:({])")
 PART = re.compile(r"^\s+(?:pub\s+)?((?:" + NAME + r"\s+)+):")
+GOAL = re.compile(r": goal\.\S+$")
+ALIAS = re.compile(r"(?<= as )(" + NAME + r")(?=[,}])")
+MEMBER = re.compile(r"^\s+ghost (" + NAME + r")(?=: |\s*=)")
 TOKEN = re.compile(r"[\w'-]+")
+RECURSIVE = "AllByRecursion as All"
 ENDINGS = (".rt", ".antt", ".edit")
 # fields of records of ours that may be spelled as ghost fields of a struct are: a field goes by its record
 TOGETHER = {"list-long", "merges-long", "steps-long"}
@@ -36,14 +41,18 @@ def files(root):
 def declared(texts):
     found = collections.defaultdict(set)
     for path, text in texts.items():
-        if not path.endswith(".antt"):
-            continue
         for line in text.split("\n"):
-            if line.lstrip().startswith("--") or ": goal." in line:
+            if path.endswith(".rt"):
+                names = MEMBER.findall(line)
+            elif not path.endswith(".antt") or line.lstrip().startswith("--") or GOAL.search(line):
                 continue
-            head = HEAD.match(line)
-            part = PART.match(line)
-            for n in [head.group(1)] if head else part.group(1).split() if part else []:
+            elif line.startswith("use "):
+                names = ALIAS.findall(line)
+            else:
+                head = HEAD.match(line)
+                part = PART.match(line)
+                names = [head.group(1)] if head else part.group(1).split() if part else []
+            for n in names:
                 found[n].add(path)
     return found
 
@@ -72,7 +81,8 @@ def main():
     if fallen:
         return 1
     for path, text in texts.items():
-        after = TOKEN.sub(lambda m: turn.get(m.group(0), m.group(0)), text)
+        here = turn | {"All": "AllByRecursion"} if RECURSIVE in text else turn
+        after = TOKEN.sub(lambda m: here.get(m.group(0), m.group(0)), text.replace(RECURSIVE, "AllByRecursion"))
         if after != text:
             with open(path, "w", encoding="utf-8") as f:
                 f.write(after)
