@@ -3,14 +3,16 @@
 
 use anyhow::anyhow;
 use congruence::Claim;
-use difference::Bound;
+use equality::make;
 use std::alloc::{AllocError, Global};
 use std::env;
 use std::time::Instant;
 use theory::{Found, Term, Theory, Unmade};
 
-fn constants(heap: Global) -> Result<Vec<Term>, AllocError> {
+/// Constants with a chain of claims between neighbours, and one claim between its ends.
+fn chain(heap: Global) -> Result<(Vec<Term>, Vec<Claim>), AllocError> {
     let mut terms = Vec::new(heap);
+    let mut claims = Vec::new(heap);
     for symbol in 0..256u16 {
         terms.push(Term {
             symbol,
@@ -18,12 +20,6 @@ fn constants(heap: Global) -> Result<Vec<Term>, AllocError> {
             args: [0, 0],
         })?;
     }
-    Ok(terms)
-}
-
-/// A chain of equalities between neighbours, and one between its ends.
-fn chain(heap: Global) -> Result<Vec<Claim>, AllocError> {
-    let mut claims = Vec::new(heap);
     for left in 0..127u16 {
         claims.push(Claim {
             left,
@@ -34,45 +30,7 @@ fn chain(heap: Global) -> Result<Vec<Claim>, AllocError> {
         left: 0,
         right: 127,
     })?;
-    Ok(claims)
-}
-
-/// A chain of terms, each one below the next, so that each claim lowers all terms before it; the denial of the last claim
-/// has the chain come back one too low.
-fn ring(heap: Global) -> Result<Vec<Bound>, AllocError> {
-    let mut claims = Vec::new(heap);
-    for term in 0..127u16 {
-        claims.push(Bound {
-            term,
-            base: term + 1,
-            most: -1,
-        })?;
-    }
-    claims.push(Bound {
-        term: 0,
-        base: 127,
-        most: -127,
-    })?;
-    Ok(claims)
-}
-
-/// One term below 127 others, each claim by one more, so that each claim lowers just that term; the denial of the last has
-/// it above one of them.
-fn star(heap: Global) -> Result<Vec<Bound>, AllocError> {
-    let mut claims = Vec::new(heap);
-    for base in 1..128u16 {
-        claims.push(Bound {
-            term: 0,
-            base,
-            most: -i32::from(base),
-        })?;
-    }
-    claims.push(Bound {
-        term: 0,
-        base: 127,
-        most: -127,
-    })?;
-    Ok(claims)
+    Ok((terms, claims))
 }
 
 /// Two towers of one symbol over two constants, and the claims that their feet and their tops are equal.
@@ -148,15 +106,9 @@ fn run<T: Theory + Drop>(
 }
 
 fn main(rt: HostRuntime) -> anyhow::Result<()> {
-    let heap = rt.alloc();
     let timed = env::args(&rt)?.count() > 1;
-    let terms = constants(heap)?;
-    let claims = chain(heap)?;
-    run(&rt, "chain", timed, equality::make(heap, &terms, &claims))?;
-    let (nested, claims) = towers(heap)?;
-    run(&rt, "towers", timed, equality::make(heap, &nested, &claims))?;
-    let claims = ring(heap)?;
-    run(&rt, "ring", timed, distance::make(heap, &terms, &claims))?;
-    let claims = star(heap)?;
-    run(&rt, "star", timed, distance::make(heap, &terms, &claims))
+    let (terms, claims) = chain(rt.alloc())?;
+    run(&rt, "chain", timed, make(rt.alloc(), &terms, &claims))?;
+    let (terms, claims) = towers(rt.alloc())?;
+    run(&rt, "towers", timed, make(rt.alloc(), &terms, &claims))
 }

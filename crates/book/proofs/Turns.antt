@@ -1,5 +1,5 @@
 -- One line of a book more. Assumes nothing.
-use Rattle.std.proofs.Common.{◌≡◌, ℕ, ◌+◌, List, [], ◌∷◌, IsErrAnd, Ok, Err, Option, Result, sym, refl, ap, ◌∙◌, arith}
+use Rattle.std.proofs.Common.{◌≡◌, ℕ, ◌+◌, List, [], ◌∷◌, IsErrAnd, Ok, Err, Result, sym, refl, ap, ◌∙◌, arith}
 use Rattle.book.specs.declared.fault.Fault.{Fault}
 use Rattle.book.specs.declared.fault.Unread.{Unread}
 use Rattle.book.specs.declared.fault.Unread.TheVariants.{Fault as Faulty, NoMemory}
@@ -7,11 +7,9 @@ use Rattle.book.specs.declared.fault.Wrong.{Wrong}
 use Rattle.book.specs.declared.line.Said.{Said}
 use Rattle.book.specs.declared.reading.Stage.{Stage}
 use Rattle.book.specs.declared.reading.Stage.TheVariants.{Start, Terms, Claims, Calls}
-use Rattle.book.specs.declared.word.Sort.{Sort}
-use Rattle.book.specs.declared.word.Word.{Word}
 use Rattle.book.specs.Words.{words_of}
 use Rattle.book.specs.Lines.{and_then, said_by}
-use Rattle.book.specs.Books.{Contents, adds, stage_after, theory_at, at_line, turn, ended, reads, Tells}
+use Rattle.book.specs.Books.{Contents, adds, stage_after, at_line, turn, ended, reads, Tells}
 
 -- ---- replies
 
@@ -30,13 +28,13 @@ tells_on (Err (Faulty d)) f m NoMemory g k h t on = absurd (let z : ◌≡◌ {A
 
 -- ---- one line
 
-module _ (n : ℕ) (s : Stage) (b : Contents) (line : List ℕ) {of : Option Sort} {ws : List Word} (m : Result Said Wrong) (is : m ≡ said_by of ws) (cut : ws ≡ words_of line) (at : of ≡ theory_at s b) where
+module _ (n : ℕ) (s : Stage) (b : Contents) (line : List ℕ) (m : Result Said Wrong) (is : m ≡ said_by (words_of line)) where
   abbrev by_said : Result Said Wrong → Result (Stage × Contents) Fault
   by_said v = at_line n (and_then v (λ said. and_then (stage_after s said) (λ next. Ok (next, adds n b said))))
 
   at_turn : turn n s b line ≡ by_said m
   unfolding turn
-  at_turn = ap by_said (sym (is ∙ ap (said_by of) cut ∙ ap (λ o. said_by o (words_of line)) at))
+  at_turn = ap by_said (sym is)
 
   pub turn_said : (e : Fault) → Err e ≡ at_line n m → turn n s b line ≡ Err e
   turn_said e h = at_turn ∙ go m h

@@ -4,14 +4,13 @@ use Rattle.std.specs.List.{AllByRecursion}
 use Rattle.std.specs.Str.{bytes_eq}
 use Rattle.std.proofs.lemmas.Fmt.{decimal_nonempty, digits_decimal, digits_value-decimal}
 use Rattle.std.proofs.lemmas.Str.Parse.{IsNumeralModel, numerals_by_fold}
-use Rattle.std.proofs.lemmas.Bool.{ne_eqb, and_parts, and_left, leb-true, cond-false}
+use Rattle.std.proofs.lemmas.Bool.{ne_eqb, and_parts, and_left, leb-true}
 use Rattle.book.specs.declared.word.Name.{Name}
-use Rattle.book.specs.declared.word.Name.TheVariants.{Kind as kind, Ask as ask, Sort as sort}
+use Rattle.book.specs.declared.word.Name.TheVariants.{Kind as kind, Ask as ask, Equality}
 use Rattle.book.specs.declared.word.Kind.TheVariants.{Theory, Term, Claim, Call}
 use Rattle.book.specs.declared.word.Ask.TheVariants.{Assert, TakeBack, Query, Write, Trial, Close}
-use Rattle.book.specs.declared.word.Sort.TheVariants.{Equality, Distance}
-use Rattle.book.specs.declared.word.Word.TheVariants.{Known, Number, Negative, Other}
-use Rattle.book.specs.Words.{spelling, first_spelled, name_of, digit, digits, value_after, held, sized, natural_of, negated_by, number_of, name_or, word_of}
+use Rattle.book.specs.declared.word.Word.TheVariants.{Known, Number, Other}
+use Rattle.book.specs.Words.{spelling, first_spelled, name_of, digit, digits, value_after, held, sized, number_of, name_or, word_of}
 use Rattle.book.proofs.Numbers.{held_within}
 use Rattle.book.proofs.Spaced.{Plain, plain_by}
 
@@ -29,8 +28,7 @@ name_word (ask Query) = refl
 name_word (ask Write) = refl
 name_word (ask Trial) = refl
 name_word (ask Close) = refl
-name_word (sort Equality) = refl
-name_word (sort Distance) = refl
+name_word Equality = refl
 
 pub name_plain : (n : Name) → Plain (spelling n)
 name_plain (kind Theory) = plain_by (spelling (kind Theory)) (omega arith) refl
@@ -43,10 +41,9 @@ name_plain (ask Query) = plain_by (spelling (ask Query)) (omega arith) refl
 name_plain (ask Write) = plain_by (spelling (ask Write)) (omega arith) refl
 name_plain (ask Trial) = plain_by (spelling (ask Trial)) (omega arith) refl
 name_plain (ask Close) = plain_by (spelling (ask Close)) (omega arith) refl
-name_plain (sort Equality) = plain_by (spelling (sort Equality)) (omega arith) refl
-name_plain (sort Distance) = plain_by (spelling (sort Distance)) (omega arith) refl
+name_plain Equality = plain_by (spelling Equality) (omega arith) refl
 
--- neither a digit nor a `-` begins a name
+-- a digit begins no name
 differs : (n : Name) (b : ℕ) (bs : List ℕ) → b ≤ 57 → bytes_eq (b ∷ bs) (spelling n) ≡ false
 differs (kind Theory) b bs h = and_left (eqb b 116) _ (ne_eqb b 116 (λ e. omega arith))
 differs (kind Term) b bs h = and_left (eqb b 116) _ (ne_eqb b 116 (λ e. omega arith))
@@ -58,8 +55,7 @@ differs (ask Query) b bs h = and_left (eqb b 113) _ (ne_eqb b 113 (λ e. omega a
 differs (ask Write) b bs h = and_left (eqb b 119) _ (ne_eqb b 119 (λ e. omega arith))
 differs (ask Trial) b bs h = and_left (eqb b 116) _ (ne_eqb b 116 (λ e. omega arith))
 differs (ask Close) b bs h = and_left (eqb b 99) _ (ne_eqb b 99 (λ e. omega arith))
-differs (sort Equality) b bs h = and_left (eqb b 101) _ (ne_eqb b 101 (λ e. omega arith))
-differs (sort Distance) b bs h = and_left (eqb b 100) _ (ne_eqb b 100 (λ e. omega arith))
+differs Equality b bs h = and_left (eqb b 101) _ (ne_eqb b 101 (λ e. omega arith))
 
 none_spelled : (ns : List Name) (b : ℕ) (bs : List ℕ) → b ≤ 57 → first_spelled ns (b ∷ bs) ≡ None
 unfolding first_spelled
@@ -90,30 +86,13 @@ no_name (b ∷ bs) some h = none_spelled _ b bs (digits_head b bs h).1
 pub number_plain : (n : ℕ) → n < 2 ^ 64 → Plain (decimal n)
 number_plain n h = (decimal_nonempty n h, digits_above (decimal n) (digits_decimal own n h))
 
-natural_some : (w : List ℕ) → 0 < length w → natural_of w ≡ cond (digits w) (sized (held (value_after 0 w))) Other
-natural_some [] some = absurd (omega arith)
-natural_some (b ∷ bs) some = refl
-
-natural_word : (n : ℕ) → n < 2 ^ 64 → natural_of (decimal n) ≡ Number n
-natural_word n h =
-    natural_some (decimal n) (decimal_nonempty n h)
-    ∙ ap (λ t. cond t (sized (held (value_after 0 (decimal n)))) Other) (digits_decimal own n h)
-    ∙ ap (λ k. sized (held k)) (digits_value-decimal own n h)
-    ∙ ap sized (sym (held_within n h))
-
-no_sign : (w : List ℕ) → digits w ≡ true → number_of w ≡ natural_of w
-no_sign [] h = refl
-no_sign (b ∷ bs) h = let p = digits_head b bs h in cond-false (eqb b 45) _ _ (ne_eqb b 45 (λ e. omega (arith, p.0)))
-
 pub number_word : (n : ℕ) → n < 2 ^ 64 → word_of (decimal n) ≡ Number n
 number_word n h =
     let d = digits_decimal own n h in
     ap (λ o. name_or o (number_of (decimal n))) (no_name (decimal n) (decimal_nonempty n h) d)
-    ∙ no_sign (decimal n) d
-    ∙ natural_word n h
-
-pub negative_word : (n : ℕ) → n < 2 ^ 64 → word_of (45 ∷ decimal n) ≡ Negative n
-negative_word n h = ap (λ o. name_or o (negated_by (natural_of (decimal n)))) (none_spelled _ 45 (decimal n) (omega arith)) ∙ ap negated_by (natural_word n h)
+    ∙ ap (λ t. cond t (sized (held (value_after 0 (decimal n)))) Other) d
+    ∙ ap (λ k. sized (held k)) (digits_value-decimal own n h)
+    ∙ ap sized (sym (held_within n h))
 
 pub number_words : (ns : List ℕ) → AllByRecursion (λ n. n < 65536) ns → map word_of (map decimal ns) ≡ map Number ns
 number_words [] h = refl

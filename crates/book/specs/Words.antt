@@ -1,14 +1,13 @@
 -- The words of a line. Assumes nothing.
-use Rattle.std.specs.Prelude.{ℕ, ◌+◌, ◌-◌, ◌*◌, ◌^◌, Bool, true, cond, ◌&&◌, List, [], ◌∷◌, map, Some, None, codes, Option, ◌==◌, nat_le, nat_lt}
+use Rattle.std.specs.Prelude.{ℕ, ◌+◌, ◌-◌, ◌*◌, ◌^◌, Bool, true, cond, ◌&&◌, List, [], ◌∷◌, map, Some, None, codes, Option, nat_le, nat_lt}
 use Rattle.std.specs.Str.{bytes_eq}
 use Rattle.book.specs.declared.scan.Mark.TheVariants.{Hash, Blank}
 use Rattle.book.specs.declared.word.Name.{Name}
-use Rattle.book.specs.declared.word.Name.TheVariants.{Kind as kind, Ask as ask, Sort as sort}
+use Rattle.book.specs.declared.word.Name.TheVariants.{Kind as kind, Ask as ask, Equality}
 use Rattle.book.specs.declared.word.Kind.TheVariants.{Theory, Term, Claim, Call}
 use Rattle.book.specs.declared.word.Ask.TheVariants.{Assert, TakeBack, Query, Write, Trial, Close}
-use Rattle.book.specs.declared.word.Sort.TheVariants.{Equality, Distance}
 use Rattle.book.specs.declared.word.Word.{Word}
-use Rattle.book.specs.declared.word.Word.TheVariants.{Known, Number, Negative, Huge, Other}
+use Rattle.book.specs.declared.word.Word.TheVariants.{Known, Number, Huge, Other}
 use Rattle.book.specs.Pieces.{before, pieces}
 
 -- how a name is written
@@ -23,13 +22,12 @@ spelling (ask Query) = codes "query"
 spelling (ask Write) = codes "write"
 spelling (ask Trial) = codes "trial"
 spelling (ask Close) = codes "close"
-spelling (sort Equality) = codes "equality"
-spelling (sort Distance) = codes "distance"
+spelling Equality = codes "equality"
 
 abbrev pub names : List Name
 names =
     kind Theory ∷ kind Term ∷ kind Claim ∷ kind Call ∷ ask Assert ∷ ask TakeBack ∷ ask Query ∷ ask Write ∷ ask Trial
-    ∷ ask Close ∷ sort Equality ∷ sort Distance ∷ []
+    ∷ ask Close ∷ Equality ∷ []
 
 -- the first of some names that a word spells
 unfoldable pub first_spelled : List Name → List ℕ → Option Name
@@ -61,23 +59,8 @@ abbrev pub sized : Option ℕ → Word
 sized (Some n) = Number n
 sized None = Huge
 
--- one digit or more
-abbrev pub natural_of : List ℕ → Word
-natural_of [] = Other
-natural_of (b ∷ bs) = cond (digits (b ∷ bs)) (sized (held (value_after 0 (b ∷ bs)))) Other
-
--- a word after a `-`
-abbrev pub negated_by : Word → Word
-negated_by (Number n) = Negative n
-negated_by Huge = Huge
-negated_by (Known n) = Other
-negated_by (Negative n) = Other
-negated_by Other = Other
-
--- digits, or a `-` and digits
 abbrev pub number_of : List ℕ → Word
-number_of [] = Other
-number_of (b ∷ bs) = cond (b == 45) (negated_by (natural_of bs)) (natural_of (b ∷ bs))
+number_of w = cond (digits w) (sized (held (value_after 0 w))) Other
 
 abbrev pub name_or : Option Name → Word → Word
 name_or (Some n) w = Known n

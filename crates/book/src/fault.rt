@@ -6,24 +6,6 @@ use crate::word::{Kind, Name};
 use std::alloc::AllocError;
 use std::fmt;
 
-/// A field of a line, by the numbers that it holds.
-#[derive(Clone, Copy)]
-pub enum Field {
-    Short,
-    Long,
-    Signed,
-}
-
-impl fmt::Display for Field {
-    fn fmt<W: fmt::Write>(&self, f: &mut fmt::Formatter<W>) -> fmt::Result {
-        match *self {
-            Field::Short => write!(f, "0 to 65535"),
-            Field::Long => write!(f, "0 to 18446744073709551615"),
-            Field::Signed => write!(f, "-2147483648 to 2147483647"),
-        }
-    }
-}
-
 /// What is wrong with a line.
 #[derive(Clone, Copy)]
 pub enum Wrong {
@@ -31,7 +13,7 @@ pub enum Wrong {
     NoSuchTheory,
     NoSuchCall,
     NoNumber,
-    OutOfRange { field: Field },
+    TooLarge { most: usize },
     Missing { after: Name },
     TooMany { after: Name },
     NoTheory,
@@ -47,13 +29,13 @@ impl fmt::Display for Wrong {
                 f,
                 "a line begins with `theory`, `term`, `claim` or `call`"
             ),
-            Wrong::NoSuchTheory => write!(f, "a theory is `equality` or `distance`"),
+            Wrong::NoSuchTheory => write!(f, "the only theory is `equality`"),
             Wrong::NoSuchCall => write!(
                 f,
                 "a call is `assert`, `takeback`, `query`, `write`, `trial` or `close`"
             ),
             Wrong::NoNumber => write!(f, "a word stands where a number is wanted"),
-            Wrong::OutOfRange { field } => write!(f, "a number does not fit: {field}"),
+            Wrong::TooLarge { most } => write!(f, "a number does not fit: at most {most}"),
             Wrong::Missing {
                 after: Name::Kind(Kind::Theory),
             } => write!(f, "the name of a theory is missing after `theory`"),
@@ -62,10 +44,7 @@ impl fmt::Display for Wrong {
             } => write!(f, "the name of a call is missing after `call`"),
             Wrong::Missing { after } => write!(f, "a number is missing after `{after}`"),
             Wrong::TooMany { after } => write!(f, "there are words too many after `{after}`"),
-            Wrong::NoTheory => write!(
-                f,
-                "a book begins with the line `theory equality` or `theory distance`"
-            ),
+            Wrong::NoTheory => write!(f, "a book begins with the line `theory equality`"),
             Wrong::SecondTheory => write!(f, "a second theory line"),
             Wrong::LateTerm => write!(f, "a term line stands after a claim or a call"),
             Wrong::LateClaim => write!(f, "a claim line stands after a call"),

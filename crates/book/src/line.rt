@@ -1,22 +1,20 @@
 //! What a line says.
 ghost use Rattle.std.specs.Prelude.{◌≡◌, Ok};
-ghost use Rattle.book.specs.Lines.{and_then, short_of, long_of, signed_of, shorts_of, first_two, only_of, place_of, theory_line_of, term_of, equal_of, bound_of, claim_of, called_by, call_of, line_by, said_by};
+ghost use Rattle.book.specs.Lines.{and_then, short_of, long_of, shorts_of, first_two, only_of, place_of, theory_of, term_of, claim_of, called_by, call_of, line_by, said_by};
 
 use crate::contents::Call;
-use crate::fault::{Field, Wrong};
-use crate::word::{Ask, Kind, Name, Sort, Word};
+use crate::fault::Wrong;
+use crate::word::{Ask, Kind, Name, Word};
 use congruence::Claim;
-use difference::Bound;
 use theory::Term;
 
 /// What one line says.
 #[derive(Clone, Copy)]
 pub enum Said {
     Nothing,
-    Theory(Sort),
+    Theory,
     Term(Term),
     Claim(Claim),
-    Bound(Bound),
     Call(Call),
 }
 
@@ -24,16 +22,15 @@ pub enum Said {
 fn short(word: Word) -> Result<u16, Wrong>
     ensures { result ≡ short_of word }
 {
-    let field = Field::Short;
     match word {
         Word::Number(n) => {
             if n < 65536 {
                 Ok(n as u16)
             } else {
-                Err(Wrong::OutOfRange { field })
+                Err(Wrong::TooLarge { most: 65535 })
             }
         }
-        Word::Negative(_) | Word::Huge => Err(Wrong::OutOfRange { field }),
+        Word::Huge => Err(Wrong::TooLarge { most: 65535 }),
         _ => Err(Wrong::NoNumber),
     }
 }
@@ -44,32 +41,7 @@ fn long(word: Word) -> Result<usize, Wrong>
 {
     match word {
         Word::Number(n) => Ok(n),
-        Word::Negative(_) | Word::Huge => Err(Wrong::OutOfRange { field: Field::Long }),
-        _ => Err(Wrong::NoNumber),
-    }
-}
-
-/// A signed number of 32 bits.
-fn signed(word: Word) -> Result<i32, Wrong>
-    ensures { result ≡ signed_of word }
-{
-    let field = Field::Signed;
-    match word {
-        Word::Number(n) => {
-            if n < 2147483648 {
-                Ok(n as i32)
-            } else {
-                Err(Wrong::OutOfRange { field })
-            }
-        }
-        Word::Negative(n) => {
-            if n <= 2147483648 {
-                Ok(-(n as i64) as i32)
-            } else {
-                Err(Wrong::OutOfRange { field })
-            }
-        }
-        Word::Huge => Err(Wrong::OutOfRange { field }),
+        Word::Huge => Err(Wrong::TooLarge { most: usize::MAX }),
         _ => Err(Wrong::NoNumber),
     }
 }
@@ -96,10 +68,10 @@ fn place(after: Name, words: &[Word]) -> Result<Option<u16>, Wrong>
 }
 
 fn theory(words: &[Word]) -> Result<Said, Wrong>
-    ensures { result ≡ theory_line_of words.now }
+    ensures { result ≡ theory_of words.now }
 {
     match only(Name::Kind(Kind::Theory), words)? {
-        Word::Known(Name::Sort(theory)) => Ok(Said::Theory(theory)),
+        Word::Known(Name::Equality) => Ok(Said::Theory),
         _ => Err(Wrong::NoSuchTheory),
     }
 }
@@ -147,9 +119,8 @@ fn term(words: &[Word]) -> Result<Said, Wrong>
     }
 }
 
-/// A claim that two terms are equal.
-fn equal(words: &[Word]) -> Result<Said, Wrong>
-    ensures { result ≡ equal_of words.now }
+fn claim(words: &[Word]) -> Result<Said, Wrong>
+    ensures { result ≡ claim_of words.now }
 {
     match words {
         [left, right] => Ok(Said::Claim(Claim {
@@ -162,36 +133,6 @@ fn equal(words: &[Word]) -> Result<Said, Wrong>
         _ => Err(Wrong::TooMany {
             after: Name::Kind(Kind::Claim),
         }),
-    }
-}
-
-/// A claim that bounds the distance of two terms.
-fn bound(words: &[Word]) -> Result<Said, Wrong>
-    ensures { result ≡ bound_of words.now }
-{
-    match words {
-        [term, base, most] => Ok(Said::Bound(Bound {
-            term: short(*term)?,
-            base: short(*base)?,
-            most: signed(*most)?,
-        })),
-        [] | [_] | [_, _] => Err(Wrong::Missing {
-            after: Name::Kind(Kind::Claim),
-        }),
-        _ => Err(Wrong::TooMany {
-            after: Name::Kind(Kind::Claim),
-        }),
-    }
-}
-
-/// A claim of the book's theory.
-fn claim(of: Option<Sort>, words: &[Word]) -> Result<Said, Wrong>
-    ensures { result ≡ claim_of of words.now }
-{
-    match of {
-        Some(Sort::Equality) => equal(words),
-        Some(Sort::Distance) => bound(words),
-        None => Err(Wrong::NoTheory),
     }
 }
 
@@ -226,26 +167,26 @@ fn call(words: &[Word]) -> Result<Said, Wrong>
     }
 }
 
-fn named(of: Option<Sort>, kind: Kind, words: &[Word]) -> Result<Said, Wrong>
-    ensures { result ≡ line_by of kind words.now }
+fn named(kind: Kind, words: &[Word]) -> Result<Said, Wrong>
+    ensures { result ≡ line_by kind words.now }
 {
     match kind {
         Kind::Theory => theory(words),
         Kind::Term => term(words),
-        Kind::Claim => claim(of, words),
+        Kind::Claim => claim(words),
         Kind::Call => call(words),
     }
 }
 
-/// What the words of a line say in a book of a theory, or before its theory line.
-pub fn meaning(of: Option<Sort>, words: &[Word]) -> Result<Said, Wrong>
-    ensures { result ≡ said_by of words.now }
+/// What the words of a line say.
+pub fn meaning(words: &[Word]) -> Result<Said, Wrong>
+    ensures { result ≡ said_by words.now }
 {
     let Some((first, rest)) = words.split_first() else {
         return Ok(Said::Nothing);
     };
     match *first {
-        Word::Known(Name::Kind(kind)) => named(of, kind, rest),
+        Word::Known(Name::Kind(kind)) => named(kind, rest),
         _ => Err(Wrong::NoSuchLine),
     }
 }

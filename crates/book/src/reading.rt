@@ -1,12 +1,12 @@
 //! Reading a book line by line.
 ghost use Rattle.std.specs.Prelude.{◌≡◌, OnOk};
-ghost use Rattle.book.specs.Books.{contents_of, none, adds, theory_at, stage_after, at_line, turn, meant, Tells};
+ghost use Rattle.book.specs.Books.{contents_of, none, adds, stage_after, at_line, turn, meant, Tells};
 
-use crate::contents::{Asked, Book, Claims};
+use crate::contents::{Asked, Book};
 use crate::fault::{Fault, Unread, Wrong};
 use crate::line::{Said, meaning};
 use crate::scan::{Mark, after, before};
-use crate::word::{Sort, words};
+use crate::word::words;
 use std::alloc::{AllocError, Global};
 
 /// Which lines may come: at the start the theory alone, and then terms, claims and calls in this order.
@@ -18,24 +18,13 @@ pub enum Stage {
     Calls,
 }
 
-/// A book with nothing in it; its theory line says which claims it has.
 fn blank(heap: Global) -> Book
     ensures { contents_of result ≡ none }
 {
     Book {
         terms: Vec::new(heap),
-        claims: Claims::none(heap, Sort::Equality),
+        claims: Vec::new(heap),
         calls: Vec::new(heap),
-    }
-}
-
-/// The theory of the book, after its theory line.
-fn theory(stage: Stage, book: &Book) -> Option<Sort>
-    ensures { result ≡ theory_at stage (contents_of book.now) }
-{
-    match stage {
-        Stage::Start => None,
-        _ => Some(book.claims.theory()),
     }
 }
 
@@ -45,13 +34,13 @@ fn next(stage: Stage, said: Said) -> Result<Stage, Wrong>
 {
     match (said, stage) {
         (Said::Nothing, _) => Ok(stage),
-        (Said::Theory(_), Stage::Start) => Ok(Stage::Terms),
-        (Said::Theory(_), _) => Err(Wrong::SecondTheory),
+        (Said::Theory, Stage::Start) => Ok(Stage::Terms),
+        (Said::Theory, _) => Err(Wrong::SecondTheory),
         (_, Stage::Start) => Err(Wrong::NoTheory),
         (Said::Term(_), Stage::Terms) => Ok(Stage::Terms),
         (Said::Term(_), _) => Err(Wrong::LateTerm),
-        (Said::Claim(_) | Said::Bound(_), Stage::Calls) => Err(Wrong::LateClaim),
-        (Said::Claim(_) | Said::Bound(_), _) => Ok(Stage::Claims),
+        (Said::Claim(_), Stage::Calls) => Err(Wrong::LateClaim),
+        (Said::Claim(_), _) => Ok(Stage::Claims),
         (Said::Call(_), _) => Ok(Stage::Calls),
     }
 }
@@ -65,24 +54,13 @@ fn at<T: Drop>(line: usize, found: Result<T, Wrong>) -> Result<T, Fault>
     }
 }
 
-/// Puts what a line says. Lines are read by the book's theory, so no claim of another one comes.
-fn put(heap: Global, book: &mut Book, line: usize, said: Said) -> Result<(), AllocError>
+fn put(book: &mut Book, line: usize, said: Said) -> Result<(), AllocError>
     ensures { OnOk result (contents_of book.new ≡ adds line (contents_of book.old) said) }
 {
     match said {
-        Said::Nothing => {}
-        Said::Theory(theory) => book.claims = Claims::none(heap, theory),
+        Said::Nothing | Said::Theory => {}
         Said::Term(term) => book.terms.push(term)?,
-        Said::Claim(claim) => {
-            if let Claims::Equality(claims) = &mut book.claims {
-                claims.push(claim)?;
-            }
-        }
-        Said::Bound(bound) => {
-            if let Claims::Distance(bounds) = &mut book.claims {
-                bounds.push(bound)?;
-            }
-        }
+        Said::Claim(claim) => book.claims.push(claim)?,
         Said::Call(call) => book.calls.push(Asked { line, call })?,
     }
     Ok(())
@@ -98,9 +76,9 @@ fn read_line(
     ensures { Tells result (λ s. (s, contents_of book.new)) (turn line stage (contents_of book.old) bytes.now) }
 {
     let words = words(heap, bytes)?;
-    let said = at(line, meaning(theory(stage, book), &words))?;
+    let said = at(line, meaning(&words))?;
     let stage = at(line, next(stage, said))?;
-    put(heap, book, line, said)?;
+    put(book, line, said)?;
     Ok(stage)
 }
 

@@ -1,6 +1,6 @@
 //! The words of a line.
 ghost use Rattle.std.specs.Prelude.{◌≡◌, IfOk};
-ghost use Rattle.book.specs.Words.{spelling, first_spelled, name_of, digit, digits, value_after, held, natural_of, negated_by, number_of, word_of, words_of};
+ghost use Rattle.book.specs.Words.{spelling, first_spelled, name_of, digit, digits, value_after, held, number_of, word_of, words_of};
 
 use crate::scan::{Mark, after, before};
 use std::alloc::{AllocError, Global};
@@ -26,19 +26,12 @@ pub enum Ask {
     Close,
 }
 
-/// The name of a theory.
-#[derive(Clone, Copy)]
-pub enum Sort {
-    Equality,
-    Distance,
-}
-
 /// A word that a book knows.
 #[derive(Clone, Copy)]
 pub enum Name {
     Kind(Kind),
     Ask(Ask),
-    Sort(Sort),
+    Equality,
 }
 
 impl Name {
@@ -57,8 +50,7 @@ impl Name {
             Name::Ask(Ask::Write) => "write",
             Name::Ask(Ask::Trial) => "trial",
             Name::Ask(Ask::Close) => "close",
-            Name::Sort(Sort::Equality) => "equality",
-            Name::Sort(Sort::Distance) => "distance",
+            Name::Equality => "equality",
         }
     }
 }
@@ -70,7 +62,7 @@ impl fmt::Display for Name {
     }
 }
 
-const NAMES: [Name; 12] = [
+const NAMES: [Name; 11] = [
     Name::Kind(Kind::Theory),
     Name::Kind(Kind::Term),
     Name::Kind(Kind::Claim),
@@ -81,16 +73,14 @@ const NAMES: [Name; 12] = [
     Name::Ask(Ask::Write),
     Name::Ask(Ask::Trial),
     Name::Ask(Ask::Close),
-    Name::Sort(Sort::Equality),
-    Name::Sort(Sort::Distance),
+    Name::Equality,
 ];
 
-/// What a word is: a negative number has its digits' value, and a number that no field can hold is `Huge`.
+/// What a word is; a number that no field can hold is `Huge`.
 #[derive(Clone, Copy)]
 pub enum Word {
     Known(Name),
     Number(usize),
-    Negative(usize),
     Huge,
     Other,
 }
@@ -142,36 +132,15 @@ fn value(word: &[u8]) -> Option<usize>
     Some(n)
 }
 
-/// A number without a sign, if there are digits and nothing else.
-fn natural(word: &[u8]) -> Word
-    ensures { result ≡ natural_of word.now }
+fn number(word: &[u8]) -> Word
+    ensures { result ≡ number_of word.now }
 {
-    if word.is_empty() || !all_digits(word) {
+    if !all_digits(word) {
         return Word::Other;
     }
     match value(word) {
         Some(n) => Word::Number(n),
         None => Word::Huge,
-    }
-}
-
-/// A word after a `-`.
-fn negated(word: Word) -> Word
-    ensures { result ≡ negated_by word }
-{
-    match word {
-        Word::Number(n) => Word::Negative(n),
-        Word::Huge => Word::Huge,
-        _ => Word::Other,
-    }
-}
-
-fn number(word: &[u8]) -> Word
-    ensures { result ≡ number_of word.now }
-{
-    match word {
-        [b'-', rest @ ..] => negated(natural(rest)),
-        _ => natural(word),
     }
 }
 

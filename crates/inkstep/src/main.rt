@@ -4,17 +4,17 @@
 mod answers;
 
 use answers::{Unanswered, answers};
-use book::{Asked, Book, Claims, Unread};
+use book::{Asked, Book, Unread};
+use equality::make;
 use std::alloc::AllocError;
-use std::fmt::Write;
 use std::io::Read;
 use std::process::ExitCode;
-use std::{env, fmt, fs, io};
+use std::{env, fs, io};
 use theory::{Theory, Unmade};
 
 const USAGE: &str = "usage:
-    inkstep ask FILE ..    answer the calls of books; - is standard input
-    inkstep help           print this
+    inkstep ask FILE    answer the calls of a book; - is standard input
+    inkstep help        print this
 ";
 
 /// The run failed, and what is wrong is written already.
@@ -29,12 +29,6 @@ impl From<io::Error> for Failed {
 
 impl From<AllocError> for Failed {
     fn from(_e: AllocError) -> Failed {
-        Failed
-    }
-}
-
-impl From<fmt::Error> for Failed {
-    fn from(_e: fmt::Error) -> Failed {
         Failed
     }
 }
@@ -71,15 +65,15 @@ fn book_of(rt: &HostRuntime, file: &str) -> Result<Book, Failed> {
     }
 }
 
-/// The answers of a theory, or else what is wrong is written.
-fn served<T: Theory + Drop>(
+/// Prints the answers of a theory, or what is wrong.
+fn serve<T: Theory + Drop>(
     rt: &HostRuntime,
     file: &str,
     made: Result<T, Unmade>,
     calls: &[Asked],
-) -> Result<String, Failed> {
+) -> Result<(), Failed> {
     match made {
-        Ok(mut theory) => told(rt, file, answers(rt.alloc(), &mut theory, calls)),
+        Ok(mut theory) => tell(rt, file, answers(rt.alloc(), &mut theory, calls)),
         Err(Unmade::Refused(refusal)) => {
             let number = refusal.number();
             eprintln!(rt; "{file}: refused {number}: {refusal}")?;
@@ -92,9 +86,12 @@ fn served<T: Theory + Drop>(
     }
 }
 
-fn told(rt: &HostRuntime, file: &str, told: Result<String, Unanswered>) -> Result<String, Failed> {
+fn tell(rt: &HostRuntime, file: &str, told: Result<String, Unanswered>) -> Result<(), Failed> {
     match told {
-        Ok(text) => Ok(text),
+        Ok(text) => {
+            rt.print(text)?;
+            Ok(())
+        }
         Err(Unanswered::NoTrial { line }) => {
             eprintln!(rt; "{file}:{line}: no trial is open to close")?;
             Err(Failed)
@@ -106,40 +103,21 @@ fn told(rt: &HostRuntime, file: &str, told: Result<String, Unanswered>) -> Resul
     }
 }
 
-/// The answers of one book.
-fn answered(rt: &HostRuntime, file: &str) -> Result<String, Failed> {
+fn ask(rt: &HostRuntime, file: &str) -> Result<(), Failed> {
     let book = book_of(rt, file)?;
-    match &book.claims {
-        Claims::Equality(claims) => {
-            let made = equality::make(rt.alloc(), &book.terms, claims);
-            served(rt, file, made, &book.calls)
-        }
-        Claims::Distance(claims) => {
-            let made = distance::make(rt.alloc(), &book.terms, claims);
-            served(rt, file, made, &book.calls)
-        }
-    }
-}
-
-/// Prints the answers of each book, of several below its name, once all are there.
-fn ask(rt: &HostRuntime, files: &[String]) -> Result<(), Failed> {
-    let mut out = String::new(rt.alloc());
-    for file in files {
-        let answers = answered(rt, file.as_str())?;
-        if files.len() > 1 {
-            writeln!(out, "{file}:")?;
-        }
-        write!(out, "{answers}")?;
-    }
-    rt.print(out)?;
-    Ok(())
+    serve(
+        rt,
+        file,
+        make(rt.alloc(), &book.terms, &book.claims),
+        &book.calls,
+    )
 }
 
 fn run(rt: &HostRuntime, words: &[String]) -> Result<(), Failed> {
     match words {
         [] => rt.print(USAGE)?,
         [word] if word.as_str() == "help" => rt.print(USAGE)?,
-        [word, files @ ..] if word.as_str() == "ask" && !files.is_empty() => ask(rt, files)?,
+        [word, file] if word.as_str() == "ask" => ask(rt, file.as_str())?,
         _ => {
             rt.eprint(USAGE)?;
             return Err(Failed);

@@ -6,6 +6,4 @@ mod calls;
 #[cfg(test)]
 mod distant;
 #[cfg(test)]
-mod equal;
-#[cfg(test)]
-mod texts;
+mod tests;
