@@ -1,6 +1,6 @@
 //! Trials: one literal asserted for a while.
 ghost use Rattle.std.specs.Prelude.{◌≡◌};
-ghost use Rattle.theory.specs.Calls.{reply, assert_leaves, take_back_leaves};
+ghost use Rattle.theory.specs.Calls.{assert_leaves, take_back_leaves};
 ghost use Rattle.theory.specs.Trials.{trial_says, trial_query_says, trial_query_leaves};
 
 use crate::literal::Literal;
@@ -16,7 +16,7 @@ impl Trial {
     /// Asserts one literal, and hands out the duty to close.
     pub fn open<T: Theory>(theory: &mut T, l: Literal) -> Result<Trial, Refusal>
         ensures shape { T.Theory.shape_of theory.new ≡ T.Theory.shape_of theory.old }
-        ensures says { reply result ≡ trial_says (T.Theory.means (T.Theory.shape_of theory.old)) (T.Theory.asserted theory.old) l }
+        ensures says { result ≡ trial_says (T.Theory.means (T.Theory.shape_of theory.old)) (T.Theory.asserted theory.old) l }
         ensures list { T.Theory.asserted theory.new ≡ assert_leaves (T.Theory.means (T.Theory.shape_of theory.old)) (T.Theory.asserted theory.old) l }
     {
         let len = theory.asserted_len();
@@ -38,7 +38,7 @@ impl Trial {
 pub fn query_with<T: Theory>(theory: &mut T, l: Literal, core: &mut [u16]) -> Result<Found, Refusal>
     ensures shape { T.Theory.shape_of theory.new ≡ T.Theory.shape_of theory.old }
     ensures list { T.Theory.asserted theory.new ≡ T.Theory.asserted theory.old }
-    ensures says { reply result ≡ trial_query_says (T.Theory.means (T.Theory.shape_of theory.old)) (T.Theory.asserted theory.old) l core.old }
+    ensures says { result ≡ trial_query_says (T.Theory.means (T.Theory.shape_of theory.old)) (T.Theory.asserted theory.old) l core.old }
     ensures place { core.new ≡ trial_query_leaves (T.Theory.means (T.Theory.shape_of theory.old)) (T.Theory.asserted theory.old) l core.old }
 {
     let trial = Trial::open(theory, l)?;
