@@ -70,5 +70,5 @@ pub trait Theory {
 
 /// What the law gives of every theory: a query answers possible exactly if some fit makes every literal of the list hold.
 pub fn answers_stand<T: Theory>(theory: &T)
-    ensures { Exact (T.Theory.means (T.Theory.shape_of theory.now)) }
+    ensures { Exact (T.means (T.shape_of theory.now)) }
 {}
