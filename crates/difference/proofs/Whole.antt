@@ -5,10 +5,11 @@ use Rattle.std.proofs.lemmas.Bool.{cases_eq}
 use Rattle.std.proofs.lemmas.List.{length_push, length-append, length-replicate, get_or_append_left, get_or_push}
 use Rattle.std.specs.List.{AllByRecursion}
 use Rattle.difference.specs.declared.bound.Bound.{Bound}
+use Rattle.std.specs.Int.Signed.{≤ℤ_refl}
 use Rattle.theory.specs.Meaning.{Rising}
 use Rattle.difference.specs.Bounds.{Leads, total, Distinct, NegativeCycle, no_bound, at, num, Each, Keeps, Greatest, Core, Named}
 use Rattle.difference.specs.Settling.{limit, excess, worst, Outcome, add, outcome_from, outcome, fits}
-use Rattle.difference.proofs.Worst.{bounds, le_refl}
+use Rattle.difference.proofs.Worst.{bounds}
 use Rattle.difference.proofs.Cycle.{leads_within}
 use Rattle.difference.proofs.Outcome.{Good, Start, Going, free_all, settled}
 
@@ -85,7 +86,7 @@ pub going : (m : ℕ) (bs : List Bound) (u : ℕ) (row : List ℤ) → Start m b
 going m bs u row s = record {
   long = s.long;
   settling = record {
-    lower = λ x. le_refl (num row x);
+    lower = λ x. ≤ℤ_refl (num row x);
     apart = λ x. inl refl;
     near = bounds row 0 (0, pos 0) bs;
     kept = λ p h. inl refl;
