@@ -13,8 +13,8 @@ use Rattle.difference.proofs.Cycle.{Stepped, Once, closes}
 
 -- what an outcome has to say
 abbrev pub Good : ℕ → List Bound → Outcome → Type 0
-Good m bs (inl row) = Greatest m bs row
-Good m bs (inr ps) = Core bs ps
+Good m bs (fits row) = Greatest m bs row
+Good m bs (clash ps) = Core bs ps
 
 -- ---- the terms that are not lowered yet
 

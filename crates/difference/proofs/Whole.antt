@@ -8,7 +8,7 @@ use Rattle.difference.specs.declared.bound.Bound.{Bound}
 use Rattle.std.specs.Int.Signed.{≤ℤ_refl}
 use Rattle.theory.specs.Meaning.{Rising}
 use Rattle.difference.specs.Bounds.{Leads, total, Distinct, NegativeCycle, no_bound, at, num, Each, Keeps, Greatest, Core, Named}
-use Rattle.difference.specs.Settling.{limit, excess, worst, Outcome, add, outcome_from, outcome, fits}
+use Rattle.difference.specs.Settling.{limit, excess, worst, Outcome, add, outcome_from, outcome, fits, clash}
 use Rattle.difference.proofs.Worst.{bounds}
 use Rattle.difference.proofs.Cycle.{leads_within}
 use Rattle.difference.proofs.Outcome.{Good, Start, Going, free_all, settled}
@@ -98,11 +98,11 @@ going m bs u row s = record {
 }
 
 pub add_good : (m : ℕ) (seen : List Bound) (o : Outcome) (b : Bound) → Named m (seen ++ b ∷ []) → Good m seen o → Good m (seen ++ b ∷ []) (add m seen o b)
-add_good m seen (inl row) b formed g =
+add_good m seen (fits row) b formed g =
     let s : Start m (seen ++ b ∷ []) b.base row = start m seen b row formed g in
     settled m (seen ++ b ∷ []) b.base row s (m + 1) row [] (worst row (seen ++ b ∷ [])).1 (going m (seen ++ b ∷ []) b.base row s)
     (omega (arith, free_all row row, s.long))
-add_good m seen (inr ps) b formed g = core_push seen b ps g
+add_good m seen (clash ps) b formed g = core_push seen b ps g
 
 -- ---- the whole list
 
