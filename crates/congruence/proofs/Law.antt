@@ -14,7 +14,8 @@ use Rattle.theory.specs.Terms.{at}
 use Rattle.congruence.specs.Table.{arg, Lower}
 use Rattle.congruence.specs.Congruence.{Fit, Joined}
 use Rattle.congruence.specs.Merges.{when, label, pair_at, pair_of, settle, join, absorb, log_at, log_of, needed}
-use Rattle.congruence.specs.Equality.{num, Says, clashes, clash, core, answer_of, equality, row, Named, Asserts, Asserted, Contradicted, Labelled, OneDenial, Stands}
+use Rattle.theory.specs.Meaning.{num}
+use Rattle.congruence.specs.Equality.{Says, clashes, clash, core, answer_of, equality, row, Named, Asserts, Asserted, Contradicted, Labelled, OneDenial, Stands}
 use Rattle.congruence.specs.Log.{RestsOn, Logged, Formed}
 use Rattle.theory.proofs.Positions.{all_has, listed_rises, listed_has, listed_only}
 use Rattle.congruence.proofs.Searches.{found, not_found, when_some, when_none, row_long, row_at}

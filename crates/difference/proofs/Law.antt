@@ -7,7 +7,8 @@ use Rattle.std.specs.List.{All, AllByRecursion}
 use Rattle.theory.specs.Literals.{claim, complement, Proper}
 use Rattle.theory.specs.Meaning.{possible, impossible, Rising}
 use Rattle.difference.specs.declared.bound.Bound.{Bound}
-use Rattle.difference.specs.Bounds.{no_bound, at, num, Keeps, Each, Named, Greatest, NegativeCycle, Core}
+use Rattle.theory.specs.Meaning.{num}
+use Rattle.difference.specs.Bounds.{no_bound, at, Keeps, Each, Named, Greatest, NegativeCycle, Core}
 use Rattle.difference.specs.Depth.{InRange, Small}
 use Rattle.difference.specs.Settling.{Outcome, fits, clash, outcome}
 use Rattle.difference.specs.Distance.{denied, bound_of, said, answer_of, row_of, Stands}

@@ -7,7 +7,8 @@ use Rattle.std.specs.List.{AllByRecursion}
 use Rattle.difference.specs.declared.bound.Bound.{Bound}
 use Rattle.std.specs.Int.Signed.{≤ℤ_refl}
 use Rattle.theory.specs.Meaning.{Rising}
-use Rattle.difference.specs.Bounds.{Leads, total, Distinct, NegativeCycle, no_bound, at, num, Each, Keeps, Greatest, Core, Named}
+use Rattle.theory.specs.Meaning.{num}
+use Rattle.difference.specs.Bounds.{Leads, total, Distinct, NegativeCycle, no_bound, at, Each, Keeps, Greatest, Core, Named}
 use Rattle.difference.specs.Settling.{limit, excess, worst, Outcome, add, outcome_from, outcome, fits, clash}
 use Rattle.difference.proofs.Worst.{bounds}
 use Rattle.difference.proofs.Cycle.{leads_within}

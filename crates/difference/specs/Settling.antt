@@ -3,7 +3,8 @@ use Rattle.std.specs.Prelude.{ℕ, zero, suc, ◌+◌, Bool, cond, List, [], ◌
 use Rattle.theory.specs.Literals.{has}
 use Rattle.theory.specs.Positions.{put, listed}
 use Rattle.difference.specs.declared.bound.Bound.{Bound}
-use Rattle.difference.specs.Bounds.{at, num}
+use Rattle.theory.specs.Meaning.{num}
+use Rattle.difference.specs.Bounds.{at}
 
 -- a fit, or else a core
 pub data Outcome : Type 0 where
