@@ -5,7 +5,8 @@ use Rattle.theory.specs.declared.term.Term.{Term}
 use Rattle.congruence.specs.declared.step.Step.{Step}
 use Rattle.congruence.specs.declared.step.Reason.{Reason}
 use Rattle.congruence.specs.declared.step.Reason.TheVariants.{Congruence}
-use Rattle.congruence.specs.Table.{at, arg}
+use Rattle.theory.specs.Terms.{at}
+use Rattle.congruence.specs.Table.{arg}
 use Rattle.congruence.specs.Congruence.{Congruent, Fit}
 use Rattle.congruence.specs.Merges.{relabel, label, merge, alike, twin_at, twin, merge_on, sweep, settle, join}
 use Rattle.congruence.specs.Log.{RestsOn, Rightful, Logged}

@@ -5,7 +5,8 @@ use Rattle.theory.specs.declared.term.Term.{Term}
 use Rattle.congruence.specs.declared.step.Step.{Step}
 use Rattle.congruence.specs.declared.step.Reason.{Reason}
 use Rattle.congruence.specs.declared.step.Reason.TheVariants.{Congruence, Asserted}
-use Rattle.congruence.specs.Table.{at, arg, Lower}
+use Rattle.theory.specs.Terms.{at}
+use Rattle.congruence.specs.Table.{arg, Lower}
 use Rattle.congruence.specs.Congruence.{Fit, Joined, by_given, by_same, by_sym, by_trans, by_cong}
 use Rattle.congruence.specs.Merges.{relabel, label, rests, crosses, needed}
 use Rattle.congruence.specs.Log.{RestsOn, Rightful, Logged}

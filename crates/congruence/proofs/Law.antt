@@ -2,20 +2,23 @@
 use Rattle.std.proofs.Common.{◌≡◌, ℕ, zero, suc, ◌+◌, ◌%◌, ◌<◌, ◌≤◌, Bool, true, false, cond, not, ◌||◌, eqb, ◌⊎◌, List, [], ◌∷◌, length, get_or, ℤ, pos, Some, None, Option, sym, refl, ap, ◌∙◌, subst, inl, inr, ⊎_elim, add-one, arith}
 use Rattle.std.proofs.lemmas.Int.{ints, by_lt_z}
 use Rattle.std.proofs.lemmas.Bool.{cases_eq, eq-eqb, ne_eqb, eqb-true, eqb-false, and_parts, and_from, or_cases, or_left, or_right, not-true, not_from_false}
-use Rattle.std.specs.List.{AllByRecursion}
+use Rattle.std.proofs.lemmas.List.{get_or_default}
+use Rattle.std.specs.List.{All}
 use Rattle.theory.specs.declared.term.Term.{Term}
 use Rattle.congruence.specs.declared.claim.Claim.{Claim}
 use Rattle.congruence.specs.declared.step.Step.{Step}
 use Rattle.congruence.specs.declared.step.Reason.{Reason}
 use Rattle.theory.specs.Literals.{claim, complement, Proper}
 use Rattle.theory.specs.Meaning.{possible, impossible, Rising}
-use Rattle.congruence.specs.Table.{at, arg, Lower}
+use Rattle.theory.specs.Terms.{at}
+use Rattle.congruence.specs.Table.{arg, Lower}
 use Rattle.congruence.specs.Congruence.{Fit, Joined}
 use Rattle.congruence.specs.Merges.{when, label, pair_at, pair_of, settle, join, absorb, log_at, log_of, needed}
-use Rattle.congruence.specs.Equality.{num, Says, clashes, clash, core, answer_of, row, Named, Asserts, Asserted, Contradicted, Labelled, OneDenial, Stands}
+use Rattle.congruence.specs.Equality.{num, Says, clashes, clash, core, answer_of, equality, row, Named, Asserts, Asserted, Contradicted, Labelled, OneDenial, Stands}
 use Rattle.congruence.specs.Log.{RestsOn, Logged, Formed}
 use Rattle.theory.proofs.Claims.{proper_at}
-use Rattle.congruence.proofs.Searches.{found, not_found, when_some, when_none, listed_rises, listed_all, listed_has, listed_only, row_long, row_at}
+use Rattle.theory.proofs.Positions.{all_has, listed_rises, listed_has, listed_only}
+use Rattle.congruence.proofs.Searches.{found, not_found, when_some, when_none, row_long, row_at}
 use Rattle.congruence.proofs.Closing.{settles, joins, roots_few, label_low, label_root}
 use Rattle.congruence.proofs.Explaining.{complete, widen, At, explained, needed_asserted}
 
@@ -83,9 +86,8 @@ module _ (claims : List Claim) (v : List ℤ) where
 
 -- ---- a list of literals
 
-all_from : (P : ℕ → Type 0) (ls : List ℕ) → ((p : ℕ) → p < length ls → P (get_or ls p 0)) → AllByRecursion P ls
-all_from P [] h = tt
-all_from P (l ∷ ls) h = (h 0 (omega arith), all_from P ls (λ p k. h (suc p) (omega (arith, k))))
+all_from : (P : ℕ → Type 0) (ls : List ℕ) → ((p : ℕ) → p < length ls → P (get_or ls p 0)) → All P ls
+all_from P ls h k d i = subst P (get_or_default ls k 0 d i) (h k i)
 
 -- a rightful log is one of merges of the table's terms
 formed : (ts : List Term) (A : ℕ → ℕ → ℕ → Type 0) (log : List Step) → Logged ts A log → Formed ts log
@@ -239,7 +241,7 @@ module _ (ts : List Term) (claims : List Claim) (named : Named ts claims) (ls : 
     test : ℕ → ℕ → Bool
     test d p = eqb d p || needed ts (log_of ts claims ls) p (pair_of claims (get_or ls d 0)).left (pair_of claims (get_or ls d 0)).right
 
-    core_is_false : (d : ℕ) → Denied d → (v : List ℤ) → Fit ts (num v) → AllByRecursion (λ p. Holds claims v (get_or ls p 0)) (core ts claims ls d) → ⊥
+    core_is_false : (d : ℕ) → Denied d → (v : List ℤ) → Fit ts (num v) → All (λ p. Holds claims v (get_or ls p 0)) (core ts claims ls d) → ⊥
     unfolding test Same
     core_is_false d z v fit all =
         from_odd claims v (get_or ls d 0) z.odd (at_each d z.within (or_left _ _ (eq-eqb d d refl)))
@@ -251,7 +253,7 @@ module _ (ts : List Term) (claims : List Claim) (named : Named ts claims) (ls : 
         (one_label _ _ (pair_in d z.within).0 (pair_in d z.within).1 z.one_class))
       where
         at_each : (p : ℕ) → p < length ls → test d p ≡ true → Holds claims v (get_or ls p 0)
-        at_each p h e = listed_all (λ p. Holds claims v (get_or ls p 0)) 0 (length ls) (test d) all p (omega arith) (omega arith) e
+        at_each p h e = all_has (λ p. Holds claims v (get_or ls p 0)) (core ts claims ls d) all p (listed_has 0 (length ls) (test d) p (omega arith) (omega arith) e)
 
     one_denial : (d : ℕ) → Denied d → OneDenial ls (core ts claims ls d)
     unfolding test
@@ -302,11 +304,11 @@ stands ts claims few_ts lower few named =
         one_holds = λ v f l h. one claims v l;
         not_both = λ v f l h x y. not_two claims v l x y;
         possible_fit = λ ls p e. (row_long 0 (length ts) _, out_fit ts claims named ls p lower);
-        possible_holds = λ ls p e. all_from _ ls (out_holds ts claims named ls p lower (when_possible (core ts claims ls) (clash ts claims ls) e));
+        possible_holds = λ ls p e. all_from (λ l. (equality ts claims).Holds l ((equality ts claims).written ls)) ls (out_holds ts claims named ls p lower (when_possible (core ts claims ls) (clash ts claims ls) e));
         core_rises = λ ls ps p e. let w = split ls ps e in subst (Rising (length ls)) w.2 (listed_rises (length ls) _);
         core_fails = λ ls ps p e v f h. let w = split ls ps e in
             core_is_false ts claims named ls p lower w.0 (denied ts claims named ls p lower w.0 w.1) v f.1
-            (subst (AllByRecursion (λ q. Holds claims v (get_or ls q 0))) (sym w.2) h);
+            (subst (All (λ q. Holds claims v (get_or ls q 0))) (sym w.2) h);
       };
       labels = λ ls p. labelled ts claims named ls p lower;
       contradicted = λ ls ps p e. let w = split ls ps e in (w.0, contradicted ts claims named ls p lower w.0 (denied ts claims named ls p lower w.0 w.1));

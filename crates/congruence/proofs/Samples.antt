@@ -1,6 +1,7 @@
 -- Sample lists, computed. Assumes nothing.
 use Rattle.std.proofs.Common.{refl}
-use Rattle.congruence.specs.Merges.{first, last, sweep, settle, log_at, needed, listed}
+use Rattle.theory.specs.Positions.{listed}
+use Rattle.congruence.specs.Merges.{first, last, sweep, settle, log_at, needed}
 use Rattle.congruence.specs.Equality.{row}
 use Rattle.congruence.specs.Samples.{Samples}
 

@@ -1,10 +1,7 @@
--- Searches below a limit, and listed numbers. Assumes nothing.
-use Rattle.std.proofs.Common.{◌≡◌, ℕ, zero, suc, ◌+◌, ◌<◌, ◌≤◌, Bool, true, false, eqb, List, [], ◌∷◌, length, get_or, ℤ, pos, Some, None, Option, sym, refl, ap, ◌∙◌, subst, ⊎_elim, arith}
-use Rattle.std.proofs.lemmas.Bool.{cases_eq, and_parts, and_from, or_cases, or_left, or_right, eq-eqb, eqb-true}
-use Rattle.std.specs.List.{AllByRecursion}
-use Rattle.theory.specs.Literals.{has}
-use Rattle.theory.specs.Meaning.{Rising}
-use Rattle.congruence.specs.Merges.{when, or_else, first, last, every_below, any_below, put, listed}
+-- Searches below a limit, and a row of numbers. Assumes nothing.
+use Rattle.std.proofs.Common.{◌≡◌, ℕ, zero, suc, ◌+◌, ◌<◌, Bool, true, false, length, get_or, ℤ, pos, Some, None, Option, sym, refl, ap, ◌∙◌, ⊎_elim, arith}
+use Rattle.std.proofs.lemmas.Bool.{cases_eq, and_parts, and_from, or_cases, or_left, or_right}
+use Rattle.congruence.specs.Merges.{when, or_else, first, last, every_below, any_below}
 use Rattle.congruence.specs.Equality.{row}
 
 some_none : {A : Type 0} {x : A} → ◌≡◌ {A = Option A} (Some x) None → ⊥
@@ -88,82 +85,6 @@ any_in (suc n) p e = ⊎_elim
     (λ h. (n, omega arith, h))
     (λ h. let w = any_in n p h in (w.0, omega (arith, w.1), w.2))
     (or_cases (p n) (any_below n p) e)
-
--- ---- listed numbers
-
--- rising, from a number on
-From : ℕ → ℕ → List ℕ → Type 0
-From low limit [] = Unit {0}
-From low limit (p ∷ ps) = (low ≤ p) × (p < limit) × From (p + 1) limit ps
-
-lower : (low less limit : ℕ) (ps : List ℕ) → less ≤ low → From low limit ps → From less limit ps
-unfolding From
-lower low less limit [] h f = tt
-lower low less limit (p ∷ ps) h f = (omega (arith, f.0), f.1, f.2)
-
-listed_from : (low count limit : ℕ) (test : ℕ → Bool) → low + count ≤ limit → From low limit (listed low count test)
-unfolding From listed
-listed_from low zero limit test h = tt
-listed_from low (suc count) limit test h = go (listed_from (low + 1) count limit test (omega arith)) (test low)
-  where
-    go : From (low + 1) limit (listed (low + 1) count test) → (b : Bool) → From low limit (put b low (listed (low + 1) count test))
-    go rest true = (omega arith, omega arith, rest)
-    go rest false = lower (low + 1) low limit (listed (low + 1) count test) (omega arith) rest
-
-rising : (low limit : ℕ) (ps : List ℕ) → From low limit ps → Rising limit ps
-unfolding From
-rising low limit [] f = tt
-rising low limit (p ∷ []) f = f.1
-rising low limit (p ∷ q ∷ ps) f = (omega (arith, f.2.0), rising (p + 1) limit (q ∷ ps) f.2)
-
-pub listed_rises : (n : ℕ) (test : ℕ → Bool) → Rising n (listed 0 n test)
-listed_rises n test = rising 0 n (listed 0 n test) (listed_from 0 n n test (omega arith))
-
--- what holds of all that are listed holds of each number that passes the test
-pub listed_all : (P : ℕ → Type 0) (low count : ℕ) (test : ℕ → Bool) → AllByRecursion P (listed low count test)
-    → (k : ℕ) → low ≤ k → k < low + count → test k ≡ true → P k
-unfolding listed
-listed_all P low zero test h k a b e = absurd (omega arith)
-listed_all P low (suc count) test h k a b e = go (λ g i. listed_all P (low + 1) count test g k i (omega arith) e) (test low) refl h
-  where
-    go : (AllByRecursion P (listed (low + 1) count test) → low + 1 ≤ k → P k) → (c : Bool) → test low ≡ c → AllByRecursion P (put c low (listed (low + 1) count test)) → P k
-    go again true q h = ⊎_elim
-        (λ (x : k ≡ low). subst P (sym x) h.0)
-        (λ (x : k ≡ low → ⊥). again h.1 (omega arith))
-        (cases_eq k low)
-    go again false q h = ⊎_elim
-        (λ (x : k ≡ low). absurd (let z : true ≡ false = sym e ∙ ap test x ∙ q in let w : ◌≡◌ {A = ℕ} 0 1 = cc in omega arith))
-        (λ (x : k ≡ low → ⊥). again h (omega arith))
-        (cases_eq k low)
-
--- a number is on the list if it is in the range and passes the test
-pub listed_has : (low count : ℕ) (test : ℕ → Bool) (k : ℕ) → low ≤ k → k < low + count → test k ≡ true → has (listed low count test) k ≡ true
-unfolding listed
-listed_has low zero test k a b e = absurd (omega arith)
-listed_has low (suc count) test k a b e = go (λ i. listed_has (low + 1) count test k i (omega arith) e) (test low) refl
-  where
-    go : (low + 1 ≤ k → has (listed (low + 1) count test) k ≡ true) → (c : Bool) → test low ≡ c → has (put c low (listed (low + 1) count test)) k ≡ true
-    go again true q = ⊎_elim
-        (λ (x : k ≡ low). or_left (eqb low k) (has (listed (low + 1) count test) k) (eq-eqb low k (sym x)))
-        (λ (x : k ≡ low → ⊥). or_right (eqb low k) (has (listed (low + 1) count test) k) (again (omega arith)))
-        (cases_eq k low)
-    go again false q = ⊎_elim
-        (λ (x : k ≡ low). absurd (let z : true ≡ false = sym e ∙ ap test x ∙ q in let w : ◌≡◌ {A = ℕ} 0 1 = cc in omega arith))
-        (λ (x : k ≡ low → ⊥). again (omega arith))
-        (cases_eq k low)
-
--- and only then
-pub listed_only : (low count : ℕ) (test : ℕ → Bool) (k : ℕ) → has (listed low count test) k ≡ true → test k ≡ true
-unfolding listed
-listed_only low zero test k e = absurd (let w : ◌≡◌ {A = ℕ} 0 1 = cc in omega arith)
-listed_only low (suc count) test k e = go (listed_only (low + 1) count test k) (test low) refl e
-  where
-    go : (has (listed (low + 1) count test) k ≡ true → test k ≡ true) → (c : Bool) → test low ≡ c → has (put c low (listed (low + 1) count test)) k ≡ true → test k ≡ true
-    go again true q h = ⊎_elim
-        (λ x. ap test (sym (eqb-true low k x)) ∙ q)
-        again
-        (or_cases (eqb low k) (has (listed (low + 1) count test) k) h)
-    go again false q h = again h
 
 -- ---- a row of numbers
 

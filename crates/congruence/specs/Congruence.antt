@@ -1,7 +1,8 @@
 -- What equality over a table of terms means: which numberings are fits, and which terms are joined. Assumes nothing.
 use Rattle.std.specs.Prelude.{◌≡◌, ℕ, ◌<◌, List, length}
 use Rattle.theory.specs.declared.term.Term.{Term}
-use Rattle.congruence.specs.Table.{at, arg}
+use Rattle.theory.specs.Terms.{at}
+use Rattle.congruence.specs.Table.{arg}
 
 -- two terms with one symbol, one number of arguments, and equal numbers at their arguments
 abbrev pub Congruent : {A : Type 0} → List Term → (ℕ → A) → ℕ → ℕ → Type 0

@@ -6,7 +6,8 @@ use Rattle.theory.specs.Meaning.{Answer, possible, impossible, Meaning, Lawful}
 use Rattle.congruence.specs.declared.claim.Claim.{Claim}
 use Rattle.congruence.specs.Table.{Lower}
 use Rattle.congruence.specs.Congruence.{Fit, Joined}
-use Rattle.congruence.specs.Merges.{when, first, label, pair_at, pair_of, log_of, needed, listed}
+use Rattle.theory.specs.Positions.{listed}
+use Rattle.congruence.specs.Merges.{when, first, label, pair_at, pair_of, log_of, needed}
 
 -- the number of a term
 abbrev pub num : List ℤ → ℕ → ℤ

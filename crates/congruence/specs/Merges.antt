@@ -1,13 +1,14 @@
 -- The merges that a list of literals leads to, the labels that they leave, and what joins two terms. A log of merges
 -- has its latest first. Assumes nothing.
-use Rattle.std.specs.Prelude.{ℕ, zero, suc, ◌+◌, ◌%◌, min, max, Bool, true, false, cond, not, ◌&&◌, ◌||◌, List, [], ◌∷◌, length, Some, None, Option, ◌==◌, nat_eq, slice_index, slice_index_or}
+use Rattle.std.specs.Prelude.{ℕ, zero, suc, ◌%◌, min, max, Bool, true, false, cond, not, ◌&&◌, ◌||◌, List, [], ◌∷◌, length, Some, None, Option, ◌==◌, nat_eq, slice_index, slice_index_or}
 use Rattle.theory.specs.declared.term.Term.{Term}
 use Rattle.theory.specs.Literals.{claim}
 use Rattle.congruence.specs.declared.claim.Claim.{Claim}
 use Rattle.congruence.specs.declared.step.Step.{Step}
 use Rattle.congruence.specs.declared.step.Reason.{Reason}
 use Rattle.congruence.specs.declared.step.Reason.TheVariants.{Congruence, Asserted}
-use Rattle.congruence.specs.Table.{at, arg}
+use Rattle.theory.specs.Terms.{at}
+use Rattle.congruence.specs.Table.{arg}
 
 -- ---- searches below a limit
 
@@ -133,14 +134,3 @@ needed ts [] p t u = false
 needed ts (s ∷ older) p t u =
     cond (label older t == label older u) (needed ts older p t u)
     (crosses (label older) (needed ts older p) s t u || rests ts (needed ts older p) p s s.reason)
-
--- ---- rows
-
-abbrev pub put : {A : Type 0} → Bool → A → List A → List A
-put true x xs = x ∷ xs
-put false x xs = xs
-
--- the numbers from `low` on, `count` of them, that pass a test, rising
-unfoldable pub listed : ℕ → ℕ → (ℕ → Bool) → List ℕ
-listed low zero test = []
-listed low (suc count) test = put (test low) low (listed (low + 1) count test)

@@ -1,9 +1,9 @@
 -- The law of a theory, for distances. Assumes nothing.
-use Rattle.std.proofs.Common.{◌≡◌, ℕ, suc, ◌*◌, ◌%◌, ◌<◌, eqb, ◌⊎◌, List, [], ◌∷◌, length, get_or, ℤ, ◌-ℤ◌, sym, ap, ◌∙◌, subst, inl, inr, ⊎_elim, arith}
+use Rattle.std.proofs.Common.{◌≡◌, ℕ, ◌*◌, ◌%◌, ◌<◌, eqb, ◌⊎◌, List, [], ◌∷◌, length, get_or, ℤ, ◌-ℤ◌, sym, ap, ◌∙◌, subst, inl, inr, ⊎_elim, arith}
 use Rattle.std.proofs.lemmas.Int.{ints, by_lt_z}
 use Rattle.std.proofs.lemmas.Bool.{cases_eq, cond-true, cond-false, eq-eqb, ne_eqb}
 use Rattle.std.proofs.lemmas.List.{length-map, get_or-map}
-use Rattle.std.specs.List.{AllByRecursion}
+use Rattle.std.specs.List.{All, AllByRecursion}
 use Rattle.theory.specs.Literals.{claim, complement, Proper}
 use Rattle.theory.specs.Meaning.{possible, impossible, Rising}
 use Rattle.theory.proofs.Claims.{proper_at}
@@ -12,7 +12,8 @@ use Rattle.difference.specs.Bounds.{no_bound, at, num, Keeps, Each, Named, Great
 use Rattle.difference.specs.Depth.{InRange, Small}
 use Rattle.difference.specs.Settling.{Outcome, outcome}
 use Rattle.difference.specs.Distance.{denied, bound_of, said, answer_of, row_of, Stands}
-use Rattle.difference.proofs.Cycle.{all_has, has_all, leads_within, cycle_fails}
+use Rattle.theory.proofs.Positions.{all_has}
+use Rattle.difference.proofs.Cycle.{has_all, leads_within, cycle_fails}
 use Rattle.difference.proofs.Outcome.{Good}
 use Rattle.difference.proofs.Whole.{outcome_good}
 
@@ -93,9 +94,8 @@ bound_small claims range l h =
 
 -- ---- what an outcome says of a list
 
-all_keep : (claims : List Bound) (row : List ℤ) (ls : List ℕ) → Each (Keeps row) (said claims ls) → AllByRecursion (λ l. Keeps row (bound_of claims l)) ls
-all_keep claims row [] h = tt
-all_keep claims row (l ∷ ls) h = (h 0 (omega arith), all_keep claims row ls (λ p k. h (suc p) (omega (arith, k))))
+all_keep : (claims : List Bound) (row : List ℤ) (ls : List ℕ) → Each (Keeps row) (said claims ls) → All (λ l. Keeps row (bound_of claims l)) ls
+all_keep claims row ls h k d i = subst (Keeps row) (get_or-map (bound_of claims) ls k d no_bound i) (h k (omega (arith, i, length-map ls (bound_of claims))))
 
 all_at : (claims : List Bound) (v : List ℤ) (ls ps : List ℕ) → AllByRecursion (λ p. p < length (said claims ls)) ps → AllByRecursion (λ p. Keeps v (bound_of claims (get_or ls p 0))) ps → AllByRecursion (λ p. Keeps v (at (said claims ls) p)) ps
 all_at claims v ls [] r h = tt
@@ -105,7 +105,7 @@ all_at claims v ls (p ∷ ps) r h = (
 )
 
 -- what holds at each position of a core holds around its cycle
-all_around : (P : ℕ → Type 0) (bs : List Bound) (core : List ℕ) (k : Core bs core) → AllByRecursion P core → AllByRecursion P k.around
+all_around : (P : ℕ → Type 0) (bs : List Bound) (core : List ℕ) (k : Core bs core) → All P core → AllByRecursion P k.around
 all_around P bs core k a = has_all P k.around (λ p h. all_has P core a p (k.same p ∙ h))
 
 when_possible : (m : ℕ) (bs : List Bound) (o : Outcome) → Good m bs o → answer_of o ≡ possible → Greatest m bs (row_of o)

@@ -1,8 +1,8 @@
 -- What making a theory of distances gives. Assumes nothing.
-use Rattle.std.specs.Prelude.{◌≡◌, List, [], length, Ok, Err, vec_items, Result}
+use Rattle.std.specs.Prelude.{◌≡◌, List, [], length, vec_items, Result}
 use Rattle.theory.specs.declared.refusal.Unmade.{Unmade}
-use Rattle.theory.specs.declared.refusal.Unmade.TheVariants.{Refused, NoMemory}
 use Rattle.theory.specs.declared.term.Term.{Term}
+use Rattle.theory.specs.Made.{Making}
 use Rattle.difference.specs.declared.bound.Bound.{Bound}
 use Rattle.difference.specs.Distance.{Standing}
 use Rattle.distance.specs.declared.state.Distance.{Distance}
@@ -17,6 +17,4 @@ pub record New (ts : List Term) (claims : List Bound) (d : Distance) : Type 0 wh
 
 -- sound records give a theory, or find no memory; others are refused
 abbrev pub Made : List Term → List Bound → Result Distance Unmade → Type 0
-Made ts claims (Ok d) = Sound ts claims × New ts claims d
-Made ts claims (Err NoMemory) = Sound ts claims
-Made ts claims (Err (Refused x)) = Barred ts claims x
+Made ts claims = Making (Sound ts claims) (New ts claims) (Barred ts claims)

@@ -6,7 +6,8 @@ use Rattle.congruence.specs.declared.claim.Claim.{Claim}
 use Rattle.congruence.specs.declared.step.Step.{Step}
 use Rattle.congruence.specs.declared.step.Reason.{Reason}
 use Rattle.congruence.specs.declared.step.Reason.TheVariants.{Congruence, Asserted}
-use Rattle.congruence.specs.Merges.{when, or_else, first, label, pair_of, log_of, listed}
+use Rattle.theory.specs.Positions.{listed}
+use Rattle.congruence.specs.Merges.{when, or_else, first, label, pair_of, log_of}
 use Rattle.congruence.specs.Equality.{clashes, clash}
 use Rattle.congruence.proofs.Searches.{found, when_some, any_in, any_from}
 use Rattle.equality.specs.Logs.{step_at, until, label_at, cell, Tabled}

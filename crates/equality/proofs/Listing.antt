@@ -2,7 +2,7 @@
 use Rattle.std.proofs.Common.{◌≡◌, ℕ, zero, suc, ◌+◌, ◌-◌, ◌<◌, ◌≤◌, Bool, true, false, List, [], ◌∷◌, ◌++◌, length, take, drop, set, ℤ, sym, refl, ap, ◌∙◌, append_assoc, append-nil, arith, take-append-drop}
 use Rattle.std.proofs.lemmas.List.{take_more_set, drop-set-lt, length-take-le, drop-drop, length-set}
 use Rattle.theory.specs.Calls.{over}
-use Rattle.congruence.specs.Merges.{put, listed}
+use Rattle.theory.specs.Positions.{put, listed}
 use Rattle.congruence.specs.Equality.{row}
 use Rattle.congruence.proofs.Searches.{row_long}
 

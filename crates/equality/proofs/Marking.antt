@@ -5,7 +5,8 @@ use Rattle.std.proofs.lemmas.List.{length-set, get_or-set_same, get_or-set_other
 use Rattle.theory.specs.declared.term.Term.{Term}
 use Rattle.congruence.specs.declared.step.Step.{Step}
 use Rattle.congruence.specs.declared.step.Reason.TheVariants.{Congruence, Asserted}
-use Rattle.congruence.specs.Table.{at, arg}
+use Rattle.theory.specs.Terms.{at}
+use Rattle.congruence.specs.Table.{arg}
 use Rattle.congruence.specs.Congruence.{Congruent}
 use Rattle.congruence.specs.Merges.{relabel, label, any_below, rests, crosses, needed}
 use Rattle.congruence.specs.Log.{RestsOn, Rightful, Formed}

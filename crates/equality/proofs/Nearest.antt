@@ -2,7 +2,7 @@
 use Rattle.std.proofs.Common.{◌≡◌, ℕ, zero, suc, ◌+◌, ◌-◌, ◌<◌, ◌≤◌, true, false, eqb, List, Some, None, Option, unwrap_or, sym, refl, ap, ◌∙◌, subst, ⊎_elim, add-one, arith}
 use Rattle.std.proofs.lemmas.Bool.{cases_eq, eq-eqb, eqb-true, and_parts, and_from}
 use Rattle.theory.specs.declared.term.Term.{Term}
-use Rattle.congruence.specs.Table.{at}
+use Rattle.theory.specs.Terms.{at}
 use Rattle.congruence.specs.Merges.{when, or_else, last}
 use Rattle.congruence.proofs.Searches.{last_not_found, when_some, when_none}
 use Rattle.equality.specs.Index.{SameHead, same_head, nearest}

@@ -2,7 +2,8 @@
 use Rattle.std.proofs.Common.{◌≡◌, ℕ, zero, suc, ◌+◌, ◌<◌, ◌≤◌, Bool, true, not, ◌&&◌, eqb, List, length, Some, None, sym, refl, ap, ◌∙◌, ⊎_elim, arith}
 use Rattle.std.proofs.lemmas.Bool.{cases_eq, cases_Bool, eq-eqb, ne_eqb, and_from, and_left, and_right, not_from_true, not_from_false}
 use Rattle.theory.specs.declared.term.Term.{Term}
-use Rattle.congruence.specs.Table.{at, arg, Lower}
+use Rattle.theory.specs.Terms.{at}
+use Rattle.congruence.specs.Table.{arg, Lower}
 use Rattle.congruence.specs.Congruence.{Congruent}
 use Rattle.congruence.specs.Merges.{when, every_below, alike, twin_at, twin, last}
 use Rattle.congruence.proofs.Closing.{alike_true, alike_from}

@@ -2,7 +2,7 @@
 use Rattle.std.specs.Prelude.{◌≡◌, ℕ, ◌<◌, Bool, ◌&&◌, List, length, ◌==◌, slice_index}
 use Rattle.std.specs.Option.{unwrap_or}
 use Rattle.theory.specs.declared.term.Term.{Term}
-use Rattle.congruence.specs.Table.{at}
+use Rattle.theory.specs.Terms.{at}
 use Rattle.congruence.specs.Merges.{when, last}
 
 -- two terms have one head: one symbol and one number of arguments

@@ -1,8 +1,8 @@
 -- What making a theory of equality gives. Assumes nothing.
-use Rattle.std.specs.Prelude.{◌≡◌, List, Ok, Err, Result}
+use Rattle.std.specs.Prelude.{◌≡◌, List, Result}
 use Rattle.theory.specs.declared.refusal.Unmade.{Unmade}
-use Rattle.theory.specs.declared.refusal.Unmade.TheVariants.{Refused, NoMemory}
 use Rattle.theory.specs.declared.term.Term.{Term}
+use Rattle.theory.specs.Made.{Making}
 use Rattle.congruence.specs.declared.claim.Claim.{Claim}
 use Rattle.congruence.specs.Equality.{Standing}
 use Rattle.equality.specs.declared.state.Equality.{Equality}
@@ -17,6 +17,4 @@ pub record New (ts : List Term) (claims : List Claim) (e : Equality) : Type 0 wh
 
 -- sound records give a theory, or find no memory; others are refused
 abbrev pub Made : List Term → List Claim → Result Equality Unmade → Type 0
-Made ts claims (Ok e) = Sound ts claims × New ts claims e
-Made ts claims (Err NoMemory) = Sound ts claims
-Made ts claims (Err (Refused x)) = Barred ts claims x
+Made ts claims = Making (Sound ts claims) (New ts claims) (Barred ts claims)

@@ -1,27 +1,17 @@
 //! What records a theory may be made of.
 ghost use Rattle.std.specs.Prelude.{ℕ, ◌<◌, ◌≤◌, length, Decides, MatchResult};
-ghost use Rattle.congruence.specs.Table.{Arities, Lower};
+ghost use Rattle.theory.specs.Terms.{Arities};
+ghost use Rattle.congruence.specs.Table.{Lower};
 ghost use Rattle.congruence.specs.Equality.{Named};
-ghost use Rattle.equality.specs.Checks.{Limits, Sound, Barred};
+ghost use Rattle.equality.specs.Checks.{Sound, Barred};
 
 use congruence::Claim;
+use theory::term::within_limits;
 use theory::{Refusal, Term};
-
-/// Whether no term has more than two arguments.
-fn few_arguments(terms: &[Term]) -> bool
-    ensures { Decides result (Arities terms.now) }
-{
-    for t in terms {
-        if t.arity > 2 {
-            return false;
-        }
-    }
-    true
-}
 
 /// Whether each argument is lower than its own term.
 fn lower_arguments(terms: &[Term]) -> bool
-    requires { Arities terms.now }
+    requires { Arities 2 terms.now }
     ensures { Decides result (Lower terms.now) }
 {
     for (k, t) in terms.iter().enumerate() {
@@ -51,7 +41,7 @@ fn named_terms(terms: &[Term], claims: &[Claim]) -> bool
 pub(crate) fn check(terms: &[Term], claims: &[Claim]) -> Result<(), Refusal>
     ensures { MatchResult result (λ _. Sound terms.now claims.now) (λ e. Barred terms.now claims.now e) }
 {
-    if terms.len() > 256 || claims.len() > 128 || !few_arguments(terms) {
+    if !within_limits(terms, claims.len(), 2) {
         return Err(Refusal::PastLimit);
     }
     if !lower_arguments(terms) {

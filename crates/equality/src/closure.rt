@@ -1,7 +1,8 @@
 //! Congruence closure, which keeps a log of its merges and a row of labels after each.
 ghost use Rattle.std.specs.Prelude.{◌≡◌, ℕ, ◌+◌, ◌*◌, ◌<◌, ◌≤◌, ◌∷◌, length, Decides, slice_index};
 ghost use Rattle.theory.specs.Literals.{claim};
-ghost use Rattle.congruence.specs.Table.{at, arg};
+ghost use Rattle.theory.specs.Terms.{at};
+ghost use Rattle.congruence.specs.Table.{arg};
 ghost use Rattle.congruence.specs.Merges.{relabel, twin, merge, pass, sweep, settle, absorb, pair_of};
 ghost use Rattle.equality.specs.Index.{SameHead, Indexed};
 ghost use Rattle.equality.specs.Logs.{until, cell, Tabled, Ready, Ran};

@@ -2,7 +2,8 @@
 ghost use Rattle.std.specs.Prelude.{◌≡◌, ℕ, ◌+◌, ◌*◌, ◌<◌, ◌≤◌, false, ◌&&◌, ◌||◌, length, pos, Some, ◌==◌, slice_index_or};
 ghost use Rattle.theory.specs.Literals.{claim};
 ghost use Rattle.theory.specs.Calls.{over};
-ghost use Rattle.congruence.specs.Merges.{first, when, listed, needed, pair_of, log_of};
+ghost use Rattle.theory.specs.Positions.{listed};
+ghost use Rattle.congruence.specs.Merges.{first, when, needed, pair_of, log_of};
 ghost use Rattle.congruence.specs.Log.{Formed};
 ghost use Rattle.congruence.specs.Equality.{clashes, clash, core, row};
 ghost use Rattle.equality.specs.Logs.{until, label_at, cell, Tabled};

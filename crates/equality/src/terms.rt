@@ -1,6 +1,7 @@
 //! A checked table of terms: a view of the caller's records.
 ghost use Rattle.std.specs.Prelude.{◌≤◌, length};
-ghost use Rattle.congruence.specs.Table.{Arities, Lower};
+ghost use Rattle.theory.specs.Terms.{Arities};
+ghost use Rattle.congruence.specs.Table.{Lower};
 
 use theory::Term;
 
@@ -9,6 +10,6 @@ use theory::Term;
 pub struct Terms<'a> {
     pub(crate) records: &'a [Term],
     ghost few: { length records.now ≤ 256 },
-    ghost arities: { Arities records.now },
+    ghost arities: { Arities 2 records.now },
     ghost lower: { Lower records.now },
 }

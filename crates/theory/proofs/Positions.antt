@@ -1,12 +1,20 @@
 -- Rows of positions, and listing them one by one. Assumes nothing.
 use Rattle.std.proofs.Common.{◌≡◌, ℕ, zero, suc, ◌+◌, ◌-◌, ◌<◌, ◌≤◌, Bool, true, false, eqb, List, [], ◌∷◌, ◌++◌, length, take, drop, set, sym, refl, ap, ◌∙◌, subst, ⊎_elim, append_assoc, append-nil, arith, take-append-drop}
 use Rattle.std.proofs.lemmas.List.{take_more_set, drop-set-lt, length-take-le, drop-drop, length-set}
-use Rattle.std.proofs.lemmas.Bool.{cases_eq, or_cases, or_left, or_right, eq-eqb, eqb-true}
-use Rattle.std.specs.List.{AllByRecursion}
+use Rattle.std.proofs.lemmas.Bool.{cases_eq, or_cases, or_left, or_right, eq-eqb, eqb-true, true≢false}
+use Rattle.std.specs.List.{All}
 use Rattle.theory.specs.Literals.{has}
 use Rattle.theory.specs.Positions.{put, listed}
 use Rattle.theory.specs.Meaning.{Rising}
 use Rattle.theory.specs.Calls.{over}
+
+-- ---- what a list has
+
+-- what holds of each element holds of each number that the list has
+pub all_has : (P : ℕ → Type 0) (xs : List ℕ) → All P xs → (x : ℕ) → has xs x ≡ true → P x
+all_has P [] a x h = absurd (true≢false (sym h))
+all_has P (y ∷ ys) a x h =
+    ⊎_elim (λ e. subst P (eqb-true y x e) (a 0 0 (omega arith))) (all_has P ys (λ k d i. a (suc k) d (omega (arith, i))) x) (or_cases (eqb y x) (has ys x) h)
 
 -- ---- what is listed
 
@@ -37,23 +45,6 @@ rising low limit (p ∷ q ∷ ps) f = (omega (arith, f.2.0), rising (p + 1) limi
 
 pub listed_rises : (n : ℕ) (test : ℕ → Bool) → Rising n (listed 0 n test)
 listed_rises n test = rising 0 n (listed 0 n test) (listed_from 0 n n test (omega arith))
-
--- what holds of all that are listed holds of each number that passes the test
-pub listed_all : (P : ℕ → Type 0) (low count : ℕ) (test : ℕ → Bool) → AllByRecursion P (listed low count test)
-    → (k : ℕ) → low ≤ k → k < low + count → test k ≡ true → P k
-unfolding listed
-listed_all P low zero test h k a b e = absurd (omega arith)
-listed_all P low (suc count) test h k a b e = go (λ g i. listed_all P (low + 1) count test g k i (omega arith) e) (test low) refl h
-  where
-    go : (AllByRecursion P (listed (low + 1) count test) → low + 1 ≤ k → P k) → (c : Bool) → test low ≡ c → AllByRecursion P (put c low (listed (low + 1) count test)) → P k
-    go again true q h = ⊎_elim
-        (λ (x : k ≡ low). subst P (sym x) h.0)
-        (λ (x : k ≡ low → ⊥). again h.1 (omega arith))
-        (cases_eq k low)
-    go again false q h = ⊎_elim
-        (λ (x : k ≡ low). absurd (let z : true ≡ false = sym e ∙ ap test x ∙ q in let w : ◌≡◌ {A = ℕ} 0 1 = cc in omega arith))
-        (λ (x : k ≡ low → ⊥). again h (omega arith))
-        (cases_eq k low)
 
 -- a number is on the list if it is in the range and passes the test
 pub listed_has : (low count : ℕ) (test : ℕ → Bool) (k : ℕ) → low ≤ k → k < low + count → test k ≡ true → has (listed low count test) k ≡ true

@@ -1,6 +1,6 @@
 -- What a theory means, and the law of every theory. Assumes nothing.
 use Rattle.std.specs.Prelude.{◌≡◌, ℕ, ◌*◌, ◌<◌, ◌≤◌, ◌⊎◌, List, [], ◌∷◌, length, ℤ, slice_index}
-use Rattle.std.specs.List.{AllByRecursion}
+use Rattle.std.specs.List.{All}
 use Rattle.theory.specs.Literals.{complement, Proper}
 
 -- what a theory answers of a list of literals; with impossible comes a core, positions on the list
@@ -37,14 +37,14 @@ pub record Lawful (M : Meaning) : Type 0 where
   pub not_both : (v : List ℤ) → Fit M v → (l : ℕ) → l < 2 * M.claims → M.Holds l v → M.Holds (complement l) v → ⊥
   -- where the answer is possible, a fit is written in which every literal of the list holds
   pub possible_fit : (ls : List ℕ) → Proper M.claims ls → M.answer ls ≡ possible → Fit M (M.written ls)
-  pub possible_holds : (ls : List ℕ) → Proper M.claims ls → M.answer ls ≡ possible → AllByRecursion (λ l. M.Holds l (M.written ls)) ls
+  pub possible_holds : (ls : List ℕ) → Proper M.claims ls → M.answer ls ≡ possible → All (λ l. M.Holds l (M.written ls)) ls
   -- where it is impossible, the core's literals hold together in no fit
   pub core_rises : (ls core : List ℕ) → Proper M.claims ls → M.answer ls ≡ impossible core → Rising (length ls) core
-  pub core_fails : (ls core : List ℕ) → Proper M.claims ls → M.answer ls ≡ impossible core → (v : List ℤ) → Fit M v → AllByRecursion (λ p. M.Holds (slice_index ls p) v) core → ⊥
+  pub core_fails : (ls core : List ℕ) → Proper M.claims ls → M.answer ls ≡ impossible core → (v : List ℤ) → Fit M v → All (λ p. M.Holds (slice_index ls p) v) core → ⊥
 
 -- some fit makes every literal of a list hold
 abbrev pub Together : Meaning → List ℕ → Type 0
-Together M ls = (v : List ℤ) × Fit M v × AllByRecursion (λ l. M.Holds l v) ls
+Together M ls = (v : List ℤ) × Fit M v × All (λ l. M.Holds l v) ls
 
 -- the answer is possible exactly if the literals of the list hold together in some fit
 pub record Exact (M : Meaning) : Type 0 where

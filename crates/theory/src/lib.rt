@@ -2,12 +2,14 @@
 #![tactic(auto)]
 
 pub mod literal;
+pub mod marks;
 pub mod refusal;
 pub mod term;
 pub mod theory;
 pub mod trial;
 
 pub use literal::Literal;
+pub use marks::list_marks;
 pub use refusal::{Found, Refusal, Unmade};
 pub use term::Term;
 pub use theory::{Theory, answers_stand};

@@ -1,7 +1,7 @@
 //! Why a call is refused, and what a query finds.
 ghost use Rattle.std.specs.Prelude.{◌≡◌};
 ghost use Rattle.theory.specs.Refusals.{number};
-ghost use Rattle.theory.specs.declared.refusal.Unmade.TheVariants.{NoMemory};
+ghost use Rattle.theory.specs.declared.refusal.Unmade.TheVariants.{Refused, NoMemory};
 
 use std::alloc::AllocError;
 use std::fmt;
@@ -73,6 +73,26 @@ impl fmt::Display for Refusal {
 pub enum Unmade {
     Refused(Refusal),
     NoMemory,
+}
+
+impl fmt::Display for Unmade {
+    fn fmt<W: fmt::Write>(&self, f: &mut fmt::Formatter<W>) -> fmt::Result {
+        match self {
+            Self::Refused(refusal) => {
+                let number = refusal.number();
+                write!(f, "refused {number}: {refusal}")
+            }
+            Self::NoMemory => write!(f, "no memory is left"),
+        }
+    }
+}
+
+impl From<Refusal> for Unmade {
+    ghost from_gives = { λ refusal r. r ≡ Refused refusal };
+
+    fn from(refusal: Refusal) -> Unmade {
+        Unmade::Refused(refusal)
+    }
 }
 
 impl From<AllocError> for Unmade {

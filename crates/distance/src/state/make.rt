@@ -27,8 +27,6 @@ fn build<'a>(heap: Global, terms: &[Term], claims: &'a [Bound]) -> Result<Distan
 pub fn make<'a>(heap: Global, terms: &[Term], claims: &'a [Bound]) -> Result<Distance<'a>, Unmade>
     ensures { Made terms.now claims.now result }
 {
-    match check(terms, claims) {
-        Err(refusal) => Err(Unmade::Refused(refusal)),
-        Ok(()) => build(heap, terms, claims),
-    }
+    check(terms, claims)?;
+    build(heap, terms, claims)
 }

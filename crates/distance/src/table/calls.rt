@@ -1,6 +1,6 @@
 //! What a table of bounds does.
 ghost use Rattle.std.specs.Prelude.{◌≡◌, ◌+◌, ◌<◌, ◌≤◌, [], ◌∷◌, ◌++◌, length, take, IfOk, vec_len};
-ghost use Rattle.theory.specs.Calls.{over, reply, core_over, fit_says, fit_over};
+ghost use Rattle.theory.specs.Calls.{over, core_over, fit_says, fit_over};
 ghost use Rattle.theory.specs.Calls.{told as finds};
 ghost use Rattle.difference.specs.Settling.{outcome};
 ghost use Rattle.distance.specs.Rows.{marked};
@@ -111,7 +111,7 @@ impl Table {
     /// Puts down the greatest numbers, at most 0, that keep all bounds.
     pub(crate) fn put(&self, place: &mut [i64]) -> Result<(), Refusal>
         requires { self.now.terms ≤ length place.old }
-        ensures says { reply result ≡ fit_says (answer_of (outcome self.now.terms self.now.bounds.items)) }
+        ensures says { result ≡ fit_says (answer_of (outcome self.now.terms self.now.bounds.items)) }
         ensures place { place.new ≡ fit_over (answer_of (outcome self.now.terms self.now.bounds.items)) (row_of (outcome self.now.terms self.now.bounds.items)) place.old }
     {
         if self.good < self.bounds.len() {

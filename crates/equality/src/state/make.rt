@@ -125,8 +125,6 @@ pub fn make<'a>(
 ) -> Result<Equality<'a>, Unmade>
     ensures { Made terms.now claims.now result }
 {
-    match check(terms, claims) {
-        Err(refusal) => Err(Unmade::Refused(refusal)),
-        Ok(()) => build(heap, terms, claims),
-    }
+    check(terms, claims)?;
+    build(heap, terms, claims)
 }

@@ -1,5 +1,6 @@
 use Rattle.std.proofs.Common.{ℕ, ◌<◌}
-use Rattle.congruence.specs.Table.{at, arg}
+use Rattle.theory.specs.Terms.{at}
+use Rattle.congruence.specs.Table.{arg}
 use Rattle.equality.proofs.check.lower_arguments.Given as goal
 
 abbrev pub invariant-loop-k : goal.invariant-loop-k

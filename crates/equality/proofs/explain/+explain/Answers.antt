@@ -3,7 +3,8 @@ use Rattle.std.proofs.Common.{◌≡◌, ℕ, ◌+◌, ◌<◌, ◌≤◌, Bool,
 use Rattle.theory.specs.declared.term.Term.{Term}
 use Rattle.congruence.specs.declared.step.Step.{Step}
 use Rattle.congruence.specs.declared.step.Reason.TheVariants.{Congruence}
-use Rattle.congruence.specs.Table.{at, arg}
+use Rattle.theory.specs.Terms.{at}
+use Rattle.congruence.specs.Table.{arg}
 use Rattle.congruence.specs.Merges.{any_below, needed}
 use Rattle.congruence.specs.Log.{Formed}
 use Rattle.equality.specs.declared.explain.Ends.{Ends}

@@ -1,7 +1,8 @@
 use Rattle.std.proofs.Common.{◌||◌, eqb, List, length, get_or, sym, ap, ◌∙◌}
 use Rattle.theory.specs.Calls.{over}
 use Rattle.congruence.specs.declared.step.Step.{Step}
-use Rattle.congruence.specs.Merges.{listed, needed, pair_of, label}
+use Rattle.theory.specs.Positions.{listed}
+use Rattle.congruence.specs.Merges.{needed, pair_of, label}
 use Rattle.equality.proofs.Asking.{clash_at}
 use Rattle.equality.proofs.query.core.Goals as goal
 

@@ -2,7 +2,8 @@ use Rattle.std.proofs.Common.{◌≡◌, ℕ, Bool, false, ◌||◌, eqb, List, 
 use lib.ListN.{get_or-replicate}
 use Rattle.std.proofs.lemmas.Bool.{true≢false}
 use Rattle.theory.specs.Calls.{over}
-use Rattle.congruence.specs.Merges.{listed, needed}
+use Rattle.theory.specs.Positions.{listed}
+use Rattle.congruence.specs.Merges.{needed}
 use Rattle.equality.specs.Logs.{until}
 use Rattle.equality.proofs.Asking.{covers_test, cited_listed}
 use Rattle.equality.proofs.query.core_of.Goals as goal

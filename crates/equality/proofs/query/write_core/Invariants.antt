@@ -1,5 +1,5 @@
 use Rattle.std.proofs.Common.{false, ◌||◌, eqb, get_or}
-use Rattle.congruence.specs.Merges.{listed}
+use Rattle.theory.specs.Positions.{listed}
 use Rattle.equality.proofs.Listing.{Partly}
 use Rattle.equality.proofs.query.write_core.Given as goal
 

@@ -2,4 +2,4 @@ use Rattle.theory.proofs.Answers.{exact}
 use Rattle.theory.proofs.theory.answers_stand.Goals as goal
 
 pub returns : goal.returns
-returns g c = exact _ (g.T.Theory.lawful c.args.theory.now)
+returns g c = exact _ (g.met.T.Theory.lawful c.args.theory.now)
