@@ -3,7 +3,7 @@ use std::alloc::{AllocError, Global};
 use std::test::Fail;
 use theory::literal::complement_of;
 use theory::trial::query_with;
-use theory::{Found, Literal, Refusal, Term, Theory, Unmade};
+use theory::{Asserted, Found, Literal, Refusal, Term, Theory, Unmade, list_marks};
 
 /// Why calls went no further: no theory was made, or one was refused.
 #[derive(Clone, Copy, PartialEq, Eq, Debug)]
@@ -130,4 +130,36 @@ fn refusal_numbers(rt: HostRuntime) {
     assert_eq!(rt; Refusal::ShortCorePlace.number(), 8);
     assert_eq!(rt; Refusal::ShortFitPlace.number(), 9);
     assert_eq!(rt; Refusal::ListImpossible.number(), 10);
+}
+
+/// A list of literals takes each claim once.
+#[test]
+fn a_list_of_literals(rt: HostRuntime) -> Result<(), Fail> {
+    let mut list = Asserted::new(rt.alloc(), 2)?;
+    assert_eq!(rt; list.push(4), Err(Refusal::NoSuchLiteral));
+    assert_eq!(rt; list.push(3), Ok(()));
+    assert_eq!(rt; list.push(2), Err(Refusal::ClaimOnList));
+    assert_eq!(rt; list.push(0), Ok(()));
+    assert_eq!(rt; list.literals(), [3, 0].as_slice());
+    assert_eq!(rt; list.take_back(3), Err(Refusal::AboveLength));
+    assert_eq!(rt; list.take_back(1), Ok(()));
+    assert_eq!(rt; list.literals(), [3].as_slice());
+    Ok(())
+}
+
+/// Marked positions are put down, rising; the rest of the place stays.
+#[test]
+fn marked_positions(rt: HostRuntime) {
+    let mut place = [9u16; 4];
+    assert_eq!(rt; list_marks(&[true, false, true], &mut place), Ok(2));
+    assert_eq!(rt; place, [0, 2, 9, 9]);
+    assert_eq!(rt;
+        list_marks(&[true; 5], &mut place),
+        Err(Refusal::ShortCorePlace)
+    );
+    assert_eq!(rt;
+        list_marks(&[false; 129], &mut place),
+        Err(Refusal::PastLimit)
+    );
+    assert_eq!(rt; place, [0, 2, 9, 9]);
 }
