@@ -38,11 +38,6 @@ add-requires c =
       room = omega (arith, room d, s.most, ap length s.says, length-map (vec_items s.list) (bound_of claims));
     }
 
-pub push_reserved-requires : goal.push_reserved-requires
-push_reserved-requires c =
-    let s = c.args.self.now in
-    omega (arith, room (goal.at.push_reserved-requires c).After-bound_of, s.room, s.list.ok.0)
-
 pub invariant_of-self : goal.invariant_of-self
 invariant_of-self c =
     let s = c.args.self.now in

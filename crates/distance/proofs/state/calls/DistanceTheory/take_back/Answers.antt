@@ -1,15 +1,10 @@
 use Rattle.std.proofs.Common.{length, take, vec_items, sym, ap, ◌∙◌, subst, arith}
-use Rattle.std.proofs.lemmas.List.{length-map, take-map}
+use Rattle.std.proofs.lemmas.List.{take-map}
 use Rattle.theory.proofs.Claims.{proper_take}
 use Rattle.difference.specs.Bounds.{Named}
 use Rattle.difference.specs.Distance.{bound_of, said}
 use Rattle.theory.specs.Literals.{Proper}
 use Rattle.distance.proofs.state.calls.DistanceTheory.take_back.Goals as goal
-
-pub cut-requires : goal.cut-requires
-cut-requires c =
-    let s = c.args.self.now in
-    omega (arith, c.if-k-len.false, c.len.ensures, s.list.ok.0, ap length s.says, length-map (vec_items s.list) (bound_of s.claims.now))
 
 pub invariant_of-self : goal.invariant_of-self
 invariant_of-self c =
