@@ -26,18 +26,13 @@ pub(crate) struct Work {
 }
 
 impl Work {
-    /// No bounds, with room for `most`.
-    pub(crate) fn new(heap: Global, terms: usize, most: usize) -> Result<Work, AllocError>
-        requires few_terms { terms ≤ 256 }
-        requires few { most ≤ 128 }
-        ensures none { IfOk result (λ w. w.bounds.items.items ≡ []) }
-        ensures terms { IfOk result (λ w. w.bounds.terms ≡ terms) }
-        ensures most { IfOk result (λ w. length w.bounds.nexts.items ≡ most) }
+    /// What settling those bounds works on, with room for as many as they have room for.
+    pub(crate) fn new(heap: Global, bounds: Bounds) -> Result<Work, AllocError>
+        ensures { IfOk result (λ w. w.bounds ≡ bounds) }
     {
-        let bounds = Bounds::new(heap, terms, most)?;
-        let row = vec![in heap; 0i64; terms]?;
-        let steps = Vec::with_capacity(heap, terms + 1)?;
-        let queue = Vec::with_capacity(heap, most)?;
+        let row = vec![in heap; 0i64; bounds.terms]?;
+        let steps = Vec::with_capacity(heap, bounds.terms + 1)?;
+        let queue = Vec::with_capacity(heap, bounds.nexts.len())?;
         Ok(Work {
             bounds,
             row,
