@@ -1,5 +1,5 @@
 //! The queue of the bounds that the row may break, by position.
-ghost use Rattle.std.specs.Prelude.{◌≡◌, ◌+◌, ◌<◌, ◌≤◌, ◌++◌, length, vec_capacity, filter, pos, ◌<ℤ◌};
+ghost use Rattle.std.specs.Prelude.{◌≡◌, ◌+◌, ◌<◌, ◌≤◌, ◌++◌, length, vec_capacity, filter};
 ghost use Rattle.std.specs.List.{AllByRecursion};
 ghost use Rattle.difference.specs.Depth.{Inside};
 ghost use Rattle.distance.specs.Queue.{breaks, Covers, broken_on, Leading, Picked};

@@ -1,5 +1,5 @@
 //! Settling a row of numbers after one more bound, and the cycle that is found instead.
-ghost use Rattle.std.specs.Prelude.{◌≡◌, ℕ, ◌+◌, ◌-◌, ◌<◌, ◌≤◌, false, [], ◌∷◌, ◌++◌, length, take, pos, ◌<ℤ◌, IfSome, IfOk, vec_capacity, vec_len, MatchOption, slice_index_or, slice_set};
+ghost use Rattle.std.specs.Prelude.{◌≡◌, ℕ, ◌+◌, ◌-◌, ◌<◌, ◌≤◌, false, [], ◌∷◌, ◌++◌, length, take, pos, ◌<ℤ◌, IfSome, IfOk, vec_capacity, MatchOption, slice_index_or, slice_set};
 ghost use Rattle.std.specs.List.{AllByRecursion};
 ghost use Rattle.theory.specs.Literals.{has};
 ghost use Rattle.difference.specs.Bounds.{at};
