@@ -48,6 +48,7 @@ impl Work {
 }
 
 /// Puts the bounds with the base `x` that the row breaks at the queue's end.
+// not a method of `Work`: tried, and no proof of it closed, as its loop lends the bounds while the queue grows
 pub(crate) fn enqueue(bounds: &Bounds, x: u16, row: &[i64], queue: &mut Vec<usize>)
     requires within { x < bounds.now.terms }
     requires long { length row.now ≡ bounds.now.terms }
