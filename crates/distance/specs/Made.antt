@@ -1,7 +1,8 @@
 -- What making a theory of distances gives. Assumes nothing.
-use Rattle.std.specs.Prelude.{◌≡◌, List, [], length, vec_items, Result}
+use Rattle.std.specs.Prelude.{◌≡◌, List, [], length, Result}
 use Rattle.theory.specs.declared.refusal.Unmade.{Unmade}
 use Rattle.theory.specs.declared.term.Term.{Term}
+use Rattle.theory.specs.Asserted.{literals_of}
 use Rattle.theory.specs.Made.{Making}
 use Rattle.difference.specs.declared.bound.Bound.{Bound}
 use Rattle.difference.specs.Distance.{Standing}
@@ -13,7 +14,7 @@ use Rattle.distance.specs.Table.{terms_of}
 pub record New (ts : List Term) (claims : List Bound) (d : Distance) : Type 0 where
   pub terms_are : terms_of d.table ≡ length ts
   pub claims_are : d.claims.now ≡ claims
-  pub nothing : vec_items d.list ≡ []
+  pub nothing : literals_of d.list ≡ []
   pub stands : Standing (length ts) claims
 
 -- sound records give a theory, or find no memory; others are refused

@@ -1,7 +1,6 @@
 //! The state of the distance theory: the list, and the table of what its literals say.
-ghost use Rattle.std.specs.Prelude.{◌≡◌, ◌*◌, ◌<◌, ◌≤◌, true, length, vec_capacity};
-ghost use Rattle.std.specs.List.{All};
-ghost use Rattle.theory.specs.Literals.{apart};
+ghost use Rattle.std.specs.Prelude.{◌≡◌, ◌≤◌, length};
+ghost use Rattle.theory.specs.Asserted.{claims_of, literals_of};
 ghost use Rattle.difference.specs.Bounds.{Named};
 ghost use Rattle.difference.specs.Depth.{InRange};
 ghost use Rattle.difference.specs.Distance.{said};
@@ -9,7 +8,7 @@ ghost use Rattle.distance.specs.Table.{terms_of, bounds_on};
 
 use crate::table::Table;
 use difference::Bound;
-use theory::Literal;
+use theory::Asserted;
 
 pub mod calls;
 pub mod make;
@@ -18,14 +17,12 @@ pub mod make;
 #[derive(Drop)]
 pub struct Distance<'a> {
     claims: &'a [Bound],
-    list: Vec<Literal>,
+    list: Asserted,
     table: Table,
     ghost few: { length claims.now ≤ 128 },
     ghost named: { Named (terms_of table) claims.now },
     ghost range: { InRange claims.now },
-    ghost room: { length claims.now ≤ vec_capacity list },
+    ghost list_claims: { claims_of list ≡ length claims.now },
     ghost most: { length table.marks.items ≡ length claims.now },
-    ghost below: { All (λ l. l < 2 * length claims.now) list.items },
-    ghost distinct: { apart list.items ≡ true },
-    ghost says: { bounds_on table ≡ said claims.now list.items },
+    ghost says: { bounds_on table ≡ said claims.now (literals_of list) },
 }

@@ -1,13 +1,23 @@
 -- What calls answer and leave where they are not refused. Assumes nothing.
-use Rattle.std.proofs.Common.{◌≡◌, ℕ, ◌*◌, ◌<◌, ◌≤◌, true, false, ltb, List, [], ◌∷◌, ◌++◌, length, take, ℤ, Ok, sym, refl, ap, arith}
+use Rattle.std.proofs.Common.{◌≡◌, ℕ, ◌*◌, ◌<◌, ◌≤◌, Bool, true, false, cond, ltb, List, [], ◌∷◌, ◌++◌, length, take, ℤ, Ok, Err, sym, refl, ap, arith}
 use Rattle.std.proofs.lemmas.List.{take_all}
 use Rattle.std.proofs.lemmas.Bool.{cond_both, ltb-true, lt-ltb, le-ltb}
+use Rattle.theory.specs.declared.refusal.Refusal.TheVariants.{NoSuchLiteral, ClaimOnList}
 use Rattle.theory.specs.Literals.{names}
 use Rattle.theory.specs.Meaning.{Meaning, possible}
-use Rattle.theory.specs.Calls.{over, assert_says, assert_leaves, take_back_says, take_back_leaves, write_says, write_leaves, fit_says, fit_over}
+use Rattle.theory.specs.Calls.{Told, over, assert_says, assert_leaves, take_back_says, take_back_leaves, write_says, write_leaves, fit_says, fit_over}
 
 pub asserted : (M : Meaning) (ls : List ℕ) (l : ℕ) → l < 2 * M.claims → names ls l ≡ false → (Ok tt ≡ assert_says M.claims ls l) × (ls ++ l ∷ [] ≡ assert_leaves M.claims ls l)
 asserted M ls l low new = let e : ltb l (2 * M.claims) ≡ true = lt-ltb l (2 * M.claims) low in (rw (e, new), rw (e, new))
+
+-- what is accepted stands at the list's end
+pub accepted : (n : ℕ) (ls : List ℕ) (l : ℕ) → Ok tt ≡ assert_says n ls l → assert_leaves n ls l ≡ ls ++ l ∷ []
+accepted n ls l e = go (ltb l (2 * n)) (names ls l) e
+  where
+    go : (a b : Bool) → ◌≡◌ {A = Told (Unit {0})} (Ok tt) (cond a (cond b (Err ClaimOnList) (Ok tt)) (Err NoSuchLiteral)) → cond a (cond b ls (ls ++ l ∷ [])) ls ≡ ls ++ l ∷ []
+    go true false e = refl
+    go true true e = cc
+    go false b e = cc
 
 -- to take back is to cut, also where nothing is cut
 pub take_back_take : (ls : List ℕ) (k : ℕ) → take_back_leaves ls k ≡ take k ls

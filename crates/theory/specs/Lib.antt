@@ -6,3 +6,4 @@ pub mod Calls
 pub mod Positions
 pub mod Trials
 pub mod Made
+pub mod Asserted

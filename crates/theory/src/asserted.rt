@@ -1,7 +1,6 @@
 //! The list of the literals asserted so far, which every theory keeps.
-ghost use Rattle.std.specs.Prelude.{◌≡◌, ◌≤◌, [], IfOk, vec_capacity};
+ghost use Rattle.std.specs.Prelude.{◌≤◌, vec_capacity};
 ghost use Rattle.theory.specs.Literals.{Proper};
-ghost use Rattle.theory.specs.Calls.{assert_says, assert_leaves, take_back_says, take_back_leaves};
 
 use crate::literal::{Literal, names};
 use crate::refusal::Refusal;
@@ -17,9 +16,14 @@ pub struct Asserted {
 }
 
 impl Asserted {
+    ghost use Rattle.std.specs.Prelude.{◌≡◌, [], IfOk};
+    ghost use Rattle.theory.specs.Calls.{assert_says, assert_leaves, take_back_says, take_back_leaves};
+    ghost use Rattle.theory.specs.Asserted.{claims_of, literals_of};
+
     /// The list before any literal is asserted.
     pub fn new(heap: Global, claims: usize) -> Result<Asserted, AllocError>
-        ensures { IfOk result (λ a. (a.claims ≡ claims) × (a.literals.items ≡ [])) }
+        ensures claims { IfOk result (λ a. claims_of a ≡ claims) }
+        ensures none { IfOk result (λ a. literals_of a ≡ []) }
     {
         let literals = Vec::with_capacity(heap, claims)?;
         Ok(Asserted { claims, literals })
@@ -27,16 +31,16 @@ impl Asserted {
 
     /// The literals, in the order in which they were asserted.
     pub fn literals(&self) -> &[Literal]
-        ensures { result.now ≡ self.now.literals.items }
+        ensures { result.now ≡ literals_of self.now }
     {
         &self.literals
     }
 
     /// Puts a literal at the list's end.
     pub fn push(&mut self, l: Literal) -> Result<(), Refusal>
-        ensures claims { self.new.claims ≡ self.old.claims }
-        ensures says { result ≡ assert_says self.old.claims self.old.literals.items l }
-        ensures list { self.new.literals.items ≡ assert_leaves self.old.claims self.old.literals.items l }
+        ensures claims { claims_of self.new ≡ claims_of self.old }
+        ensures says { result ≡ assert_says (claims_of self.old) (literals_of self.old) l }
+        ensures list { literals_of self.new ≡ assert_leaves (claims_of self.old) (literals_of self.old) l }
     {
         if usize::from(l / 2) >= self.claims {
             return Err(Refusal::NoSuchLiteral);
@@ -50,9 +54,9 @@ impl Asserted {
 
     /// Keeps the first `k` literals.
     pub fn take_back(&mut self, k: usize) -> Result<(), Refusal>
-        ensures claims { self.new.claims ≡ self.old.claims }
-        ensures says { result ≡ take_back_says self.old.literals.items k }
-        ensures list { self.new.literals.items ≡ take_back_leaves self.old.literals.items k }
+        ensures claims { claims_of self.new ≡ claims_of self.old }
+        ensures says { result ≡ take_back_says (literals_of self.old) k }
+        ensures list { literals_of self.new ≡ take_back_leaves (literals_of self.old) k }
     {
         if k > self.literals.len() {
             return Err(Refusal::AboveLength);

@@ -1,6 +1,8 @@
 //! Distances as a theory.
 ghost use Rattle.std.specs.Prelude.{◌≡◌, ℕ, ◌<◌, List, length};
-ghost use Rattle.theory.specs.Literals.{claim};
+ghost use Rattle.std.proofs.Common.{subst};
+ghost use Rattle.theory.specs.Literals.{claim, Proper};
+ghost use Rattle.theory.specs.Asserted.{literals_of};
 ghost use Rattle.difference.specs.declared.bound.Bound.{Bound};
 ghost use Rattle.difference.specs.Distance.{bound_of, distances};
 ghost use Rattle.difference.specs.Depth.{InRange};
@@ -9,7 +11,6 @@ ghost use Rattle.distance.specs.Table.{terms_of};
 
 use crate::state::Distance;
 use difference::Bound;
-use theory::literal::names;
 use theory::{Found, Literal, Refusal, Theory};
 
 /// What a literal says: its claim, or that claim's denial.
@@ -36,11 +37,11 @@ impl<'a> Theory for Distance<'a> {
 
     ghost means = { λ s. distances s.0 s.1 };
 
-    ghost asserted = { λ d. d.list.items };
+    ghost asserted = { λ d. literals_of d.list };
 
     ghost lawful = { λ d. (stands (terms_of d.table) d.claims.now d.table.work.bounds.few_terms d.few d.named).law };
 
-    ghost proper = { λ d. record { below = d.below; apart_claims = d.distinct } };
+    ghost proper = { λ d. subst (λ n. Proper n (literals_of d.list)) d.list_claims d.list.proper };
 
     fn claims(&self) -> usize {
         self.claims.len()
@@ -51,26 +52,17 @@ impl<'a> Theory for Distance<'a> {
     }
 
     fn asserted_len(&self) -> usize {
-        self.list.len()
+        self.list.literals().len()
     }
 
     fn assert(&mut self, l: Literal) -> Result<(), Refusal> {
-        if usize::from(l) >= 2 * self.claims.len() {
-            return Err(Refusal::NoSuchLiteral);
-        }
-        if names(&self.list, l) {
-            return Err(Refusal::ClaimOnList);
-        }
+        self.list.push(l)?;
         self.table.add(bound_of(self.claims, l));
-        self.list.push_reserved(l);
         Ok(())
     }
 
     fn take_back(&mut self, k: usize) -> Result<(), Refusal> {
-        if k > self.list.len() {
-            return Err(Refusal::AboveLength);
-        }
-        self.list.truncate(k);
+        self.list.take_back(k)?;
         self.table.cut(k);
         Ok(())
     }

@@ -7,14 +7,14 @@ use crate::state::Distance;
 use crate::table::Table;
 use difference::Bound;
 use std::alloc::Global;
-use theory::{Term, Unmade};
+use theory::{Asserted, Term, Unmade};
 
 /// The theory of sound records.
 fn build<'a>(heap: Global, terms: &[Term], claims: &'a [Bound]) -> Result<Distance<'a>, Unmade>
     requires { Sound terms.now claims.now }
     ensures { Made terms.now claims.now result }
 {
-    let list = Vec::with_capacity(heap, claims.len())?;
+    let list = Asserted::new(heap, claims.len())?;
     let table = Table::new(heap, terms.len(), claims.len())?;
     Ok(Distance {
         claims,

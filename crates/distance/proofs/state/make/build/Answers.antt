@@ -9,7 +9,7 @@ returns c =
       record {
         terms_are = c.in_ok-table.ensures.terms;
         claims_are = refl;
-        nothing = c.in_ok-list.ensures.items;
+        nothing = c.in_ok-list.ensures.none;
         stands = stands (length c.args.terms.now) c.args.claims.now s.limits.few_terms s.limits.few_claims s.named;
       },
     )

@@ -1,25 +1,13 @@
-use Rattle.std.proofs.Common.{length, take, vec_items, sym, ap, ◌∙◌, subst, arith}
+use Rattle.std.proofs.Common.{take, sym, ap, ◌∙◌}
 use Rattle.std.proofs.lemmas.List.{take-map}
-use Rattle.theory.proofs.Claims.{proper_take}
-use Rattle.difference.specs.Bounds.{Named}
+use Rattle.theory.specs.Asserted.{literals_of}
+use Rattle.theory.proofs.Lists.{take_back_take}
 use Rattle.difference.specs.Distance.{bound_of, said}
-use Rattle.theory.specs.Literals.{Proper}
 use Rattle.distance.proofs.state.calls.DistanceTheory.take_back.Goals as goal
 
-pub invariant_of-self : goal.invariant_of-self
-invariant_of-self c =
+pub invariant_of-self-2-clause-says : goal.invariant_of-self-2-clause-says
+invariant_of-self-2-clause-says c =
     let s = c.args.self.now in
     let claims = s.claims.now in
-    let proper = proper_take (length claims) c.args.k (vec_items s.list) (record { below = s.below; apart_claims = s.distinct }) in
-    let left : Proper (length claims) (vec_items c.truncate.new.self) = subst (Proper (length claims)) (sym c.truncate.ensures.items) proper in
-    let says = c.cut.ensures.list ∙ ap (take c.args.k) s.says ∙ take-map (bound_of claims) c.args.k (vec_items s.list) ∙ ap (said claims) (sym c.truncate.ensures.items) in
-    record {
-      few = s.few;
-      named = subst (λ m. Named m claims) (sym c.cut.ensures.terms) s.named;
-      range = s.range;
-      room = omega (arith, c.truncate.ensures.capacity, s.room);
-      most = c.cut.ensures.most ∙ s.most;
-      below = left.below;
-      distinct = left.apart_claims;
-      says = says;
-    }
+    c.cut.ensures.list ∙ ap (take c.args.k) s.says ∙ take-map (bound_of claims) c.args.k (literals_of s.list)
+    ∙ ap (said claims) (sym (c.in_ok-take_back.ensures.list ∙ take_back_take (literals_of s.list) c.args.k))
