@@ -55,24 +55,7 @@ module _ (m most : ℕ) (bs : List Bound) (rows : List ℤ) (good : ℕ) (marks 
       ap (outcome m) (front i (omega (arith, l, h.reached)))
       ∙ ap (λ k. outcome m (take k bs)) (sym e) ∙ h.possible i ∙ ap (λ k. fits (part m k rows)) e
 
-  -- the list was impossible before
-  pub held_more : good < length bs → Held m most (bs ++ b ∷ []) rows good marks
-  held_more l = record {
-    fits_in = omega (arith, longer, free);
-    reached = omega (arith, longer, h.reached);
-    possible = λ j. row_at (min j good) (omega arith);
-    broken = λ _. ap (outcome m) (front (good + 1) (omega (arith, l))) ∙ h.broken l;
-    row_each = h.row_each;
-    mark_each = h.mark_each;
-  }
-
   module _ (all : good ≡ length bs) where
-    -- the row of all bounds but the last
-    pub last_row : outcome m (take (length (bs ++ b ∷ []) - 1) (bs ++ b ∷ [])) ≡ fits (part m good rows)
-    last_row =
-        let n : length (bs ++ b ∷ []) - 1 ≡ good = omega (arith, all, longer) in
-        ap (λ k. outcome m (take k (bs ++ b ∷ []))) n ∙ row_at good (omega arith)
-
     -- there is a row for all
     pub next_in : (good * m + m) + m ≤ length rows
     next_in = omega (arith, h.row_each, add-mul good 1 m, mul-le-mul_right {m = good + 1} {n = most} m (omega (arith, all, free)))

@@ -1,6 +1,6 @@
 -- A loop back along the steps that marks a cycle. Assumes nothing.
-use Rattle.std.proofs.Common.{◌≡◌, ℕ, zero, suc, ◌+◌, ◌-◌, ◌<◌, ◌≤◌, Bool, true, false, cond, ◌||◌, eqb, List, [], ◌∷◌, ◌++◌, length, get_or, set, take, replicate, sym, refl, ap, ◌∙◌, ⊎_elim, arith}
-use Rattle.std.proofs.lemmas.List.{get_or-set_same, get_or-set_other, get_or_push, get_or-take, length_push, length-replicate, take-append-le, take-take, take_all}
+use Rattle.std.proofs.Common.{◌≡◌, ℕ, zero, suc, ◌+◌, ◌-◌, ◌<◌, ◌≤◌, Bool, true, false, cond, ◌||◌, eqb, List, [], ◌∷◌, ◌++◌, length, get_or, set, take, sym, refl, ap, ◌∙◌, ⊎_elim, arith}
+use Rattle.std.proofs.lemmas.List.{get_or-set_same, get_or-set_other, get_or_push, get_or-take, length_push, take-append-le, take-take, take_all}
 use Rattle.std.specs.List.{AllByRecursion}
 use Rattle.std.proofs.ByRecursion.{All-get_or}
 use Rattle.std.proofs.lemmas.Bool.{cases_Bool, cases_eq, eq-eqb, ne_eqb}
@@ -30,17 +30,6 @@ set_mark ms i q h =
     (λ (e : q ≡ i). ap (λ k. get_or (set ms i true) k false) e ∙ get_or-set_same ms i true false h ∙ sym (ap (λ b. get_or ms q false || b) (eq-eqb i q (sym e)) ∙ or_all (get_or ms q false)))
     (λ (ne : q ≡ i → ⊥). get_or-set_other ms i q true false ne ∙ sym (ap (λ b. get_or ms q false || b) (ne_eqb i q (λ e. ne (sym e))) ∙ or_none (get_or ms q false)))
     (cases_eq q i)
-
-clear_at : (n q : ℕ) → get_or (replicate n false) q false ≡ false
-clear_at zero q = refl
-clear_at (suc n) zero = refl
-clear_at (suc n) (suc q) = clear_at n q
-
--- the first mark in a clear table
-pub first_mark : (ms : List Bool) (n p q : ℕ) (rest : Bool) → ms ≡ replicate n false → p < n → (get_or (set ms p true) q false || rest) ≡ (eqb p q || rest)
-first_mark ms n p q rest e h =
-    ap (λ b. b || rest)
-    (set_mark ms p q (omega (arith, ap length e, length-replicate n false, h)) ∙ ap (λ b. b || eqb p q) (ap (λ l. get_or l q false) e ∙ clear_at n q))
 
 back_more : (bs : List Bound) (steps : List ℕ) (k x : ℕ) → 0 < k → (c : Bool) → lowers bs steps (k - 1) x ≡ c
     → back bs steps k x ≡ put c (get_or steps (k - 1) 0) (back bs steps (k - 1) (cond c (at bs (get_or steps (k - 1) 0)).base x))

@@ -1,5 +1,5 @@
 -- A loop that settles a row, one turn after another. Assumes nothing.
-use Rattle.std.proofs.Common.{◌≡◌, ℕ, zero, suc, ◌+◌, ◌-◌, ◌<◌, ◌≤◌, true, false, cond, eqb, List, [], ◌∷◌, ◌++◌, length, set, ℤ, pos, ◌≤ℤ◌, ◌<ℤ◌, sym, refl, ap, ◌∙◌, arith}
+use Rattle.std.proofs.Common.{◌≡◌, ℕ, zero, suc, ◌+◌, ◌-◌, ◌<◌, true, false, cond, eqb, List, [], ◌∷◌, ◌++◌, length, set, ℤ, pos, ◌≤ℤ◌, ◌<ℤ◌, sym, refl, ap, ◌∙◌, arith}
 use lib.Signed.{lt_z}
 use Rattle.std.proofs.lemmas.Int.{ints}
 use Rattle.std.proofs.lemmas.Bool.{cond-true, cond-false, eq-eqb, ne_eqb}
@@ -28,10 +28,6 @@ settle_more bs u (suc k) row steps h =
 
 pub turn_start : (bs : List Bound) (u : ℕ) (row : List ℤ) → Inside 39000 row → Turning bs u row row [] 0 (length row + 1)
 turn_start bs u row h = record { whole = refl; long = refl; count = omega arith; inside = inside_weaker 39000 (39000 + 0) row (omega arith) h; positions = tt }
-
--- the row is no lower than numbers may be
-pub turn_inside : {bs : List Bound} {u : ℕ} {old row : List ℤ} {steps : List ℕ} {done left : ℕ} → Turning bs u old row steps done left → length old ≤ 256 → Inside 40000 row
-turn_inside {row = row} {done = done} g few = inside_weaker (39000 + done) 40000 row (omega (arith, g.count, few)) g.inside
 
 module _ (bs : List Bound) (u : ℕ) (old row : List ℤ) (steps : List ℕ) (done left : ℕ) (g : Turning bs u old row steps done left) where
   pub turn_end : left ≡ 0 → settle bs u (length old + 1) old [] ≡ fits row

@@ -1,6 +1,6 @@
 //! Bounds one after another, and by their base: for each term the latest bound with that base, and for each bound the one
 //! before it.
-ghost use Rattle.std.specs.Prelude.{◌≡◌, ℕ, ◌+◌, ◌*◌, ◌<◌, ◌≤◌, [], ◌∷◌, ◌++◌, length, take, vec_capacity, vec_items, IfOk};
+ghost use Rattle.std.specs.Prelude.{◌≡◌, ◌<◌, ◌≤◌, [], ◌∷◌, ◌++◌, length, take, vec_capacity, IfOk};
 ghost use Rattle.difference.specs.Bounds.{at, Each, Named};
 ghost use Rattle.difference.specs.Settling.{limit, excess};
 ghost use Rattle.difference.specs.Depth.{Small, Inside};
@@ -15,6 +15,7 @@ use std::alloc::{AllocError, Global};
 pub(crate) struct Bounds {
     pub(crate) terms: usize,
     pub(crate) items: Vec<Bound>,
+    // positions and not boxes: no step may allocate
     pub(crate) heads: Vec<Option<usize>>,
     pub(crate) nexts: Vec<Option<usize>>,
     ghost few_terms: { terms ≤ 256 },

@@ -1,5 +1,5 @@
 //! The queue of the bounds that the row may break, by position.
-ghost use Rattle.std.specs.Prelude.{◌≡◌, ◌+◌, ◌<◌, ◌≤◌, ◌++◌, length, vec_capacity, filter, pos, ◌<ℤ◌};
+ghost use Rattle.std.specs.Prelude.{◌≡◌, ◌+◌, ◌<◌, ◌≤◌, ◌++◌, length, vec_capacity, filter};
 ghost use Rattle.std.specs.List.{AllByRecursion};
 ghost use Rattle.difference.specs.Depth.{Inside};
 ghost use Rattle.distance.specs.Queue.{breaks, Covers, broken_on, Leading, Picked};
@@ -48,6 +48,7 @@ impl Work {
 }
 
 /// Puts the bounds with the base `x` that the row breaks at the queue's end.
+// not a method of `Work`: tried, and no proof of it closed, as its loop lends the bounds while the queue grows
 pub(crate) fn enqueue(bounds: &Bounds, x: u16, row: &[i64], queue: &mut Vec<usize>)
     requires within { x < bounds.now.terms }
     requires long { length row.now ≡ bounds.now.terms }

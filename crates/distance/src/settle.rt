@@ -1,5 +1,5 @@
 //! Settling a row of numbers after one more bound, and the cycle that is found instead.
-ghost use Rattle.std.specs.Prelude.{◌≡◌, ℕ, ◌+◌, ◌-◌, ◌<◌, ◌≤◌, false, [], ◌∷◌, ◌++◌, length, take, pos, ◌<ℤ◌, IfSome, IfOk, vec_capacity, vec_len, MatchOption, slice_index_or, slice_set};
+ghost use Rattle.std.specs.Prelude.{◌≡◌, ℕ, ◌+◌, ◌-◌, ◌<◌, ◌≤◌, false, [], ◌∷◌, ◌++◌, length, take, pos, ◌<ℤ◌, IfSome, IfOk, vec_capacity, MatchOption, slice_index_or, slice_set};
 ghost use Rattle.std.specs.List.{AllByRecursion};
 ghost use Rattle.theory.specs.Literals.{has};
 ghost use Rattle.difference.specs.Bounds.{at};
@@ -26,18 +26,13 @@ pub(crate) struct Work {
 }
 
 impl Work {
-    /// No bounds, with room for `most`.
-    pub(crate) fn new(heap: Global, terms: usize, most: usize) -> Result<Work, AllocError>
-        requires few_terms { terms ≤ 256 }
-        requires few { most ≤ 128 }
-        ensures none { IfOk result (λ w. w.bounds.items.items ≡ []) }
-        ensures terms { IfOk result (λ w. w.bounds.terms ≡ terms) }
-        ensures most { IfOk result (λ w. length w.bounds.nexts.items ≡ most) }
+    /// What settling those bounds works on, with room for as many as they have room for.
+    pub(crate) fn new(heap: Global, bounds: Bounds) -> Result<Work, AllocError>
+        ensures { IfOk result (λ w. w.bounds ≡ bounds) }
     {
-        let bounds = Bounds::new(heap, terms, most)?;
-        let row = vec![in heap; 0i64; terms]?;
-        let steps = Vec::with_capacity(heap, terms + 1)?;
-        let queue = Vec::with_capacity(heap, most)?;
+        let row = vec![in heap; 0i64; bounds.terms]?;
+        let steps = Vec::with_capacity(heap, bounds.terms + 1)?;
+        let queue = Vec::with_capacity(heap, bounds.nexts.len())?;
         Ok(Work {
             bounds,
             row,
@@ -69,6 +64,8 @@ impl Work {
     ///
     /// Terms are lowered until no bound is broken, or until a bound would lower the last bound's base. All bounds but the last
     /// are kept at first, so the queue starts with that one; a lowered term can break only bounds with that base.
+    // apart from its callers, whose own loops it would push out of the registers
+    #[inline(never)]
     pub(crate) fn settle(&mut self, before: &[i64]) -> Option<usize>
         requires some { 0 < length self.old.bounds.items.items }
         requires long { length before.now ≡ self.old.bounds.terms }

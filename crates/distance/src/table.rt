@@ -2,6 +2,7 @@
 ghost use Rattle.std.specs.Prelude.{◌≡◌, ◌+◌, ◌*◌, ◌≤◌, length};
 ghost use Rattle.distance.specs.Rows.{Possible, Broken};
 
+use crate::bounds::Bounds;
 use crate::settle::Work;
 use difference::Bound;
 use std::alloc::{AllocError, Global};
@@ -14,6 +15,7 @@ use theory::{Found, Refusal, list_marks};
 #[derive(Drop)]
 pub struct Table {
     pub(crate) work: Work,
+    // one list and ranges of it, not chunks: rows of no terms would be chunks of none
     rows: Vec<i64>,
     good: usize,
     marks: Vec<bool>,
@@ -41,7 +43,8 @@ impl Table {
         ensures terms { IfOk result (λ t. terms_of t ≡ terms) }
         ensures most { IfOk result (λ t. length t.marks.items ≡ most) }
     {
-        let work = Work::new(heap, terms, most)?;
+        let bounds = Bounds::new(heap, terms, most)?;
+        let work = Work::new(heap, bounds)?;
         let rows = vec![in heap; 0i64; most * terms + terms]?;
         let marks = vec![in heap; false; most]?;
         Ok(Table {
