@@ -39,16 +39,20 @@ fn own_labels() -> [u16; 256]
     row
 }
 
-/// A row of labels after one more merge.
-fn renamed(mut row: [u16; 256], high: u16, low: u16) -> [u16; 256]
-    ensures { (t : ℕ) → t < 256 → slice_index result t ≡ relabel high low (slice_index row t) }
+/// The label that a merge makes of `x`.
+fn renamed(x: u16, high: u16, low: u16) -> u16
+    ensures { result ≡ relabel high low x }
+{
+    if x == high { low } else { x }
+}
+
+/// Makes a row of labels that of one more merge.
+fn rename(row: &mut [u16; 256], high: u16, low: u16)
+    ensures { (t : ℕ) → t < 256 → slice_index row.new t ≡ relabel high low (slice_index row.old t) }
 {
     for x in row.iter_mut() {
-        if *x == high {
-            *x = low;
-        }
+        *x = renamed(*x, high, low);
     }
-    row
 }
 
 impl<'a> Closure<'a> {
@@ -59,7 +63,9 @@ impl<'a> Closure<'a> {
     {
         let m = table.records.len();
         let steps = Vec::with_capacity(heap, m)?;
-        let mut rows = Vec::with_capacity(heap, m + 1)?;
+        // The rows are written once here, so that no merge is the first to touch its memory.
+        let mut rows = vec![in heap; [0; 256]; m + 1]?;
+        rows.clear();
         rows.push_reserved(own_labels());
         let mut closure = Closure {
             terms: table,
@@ -136,7 +142,8 @@ impl<'a> Closure<'a> {
         let y = self.label(k, b);
         let high = x.max(y);
         let low = x.min(y);
-        let row = renamed(self.rows[k], high, low);
+        let mut row = self.rows[k];
+        rename(&mut row, high, low);
         self.rows.push_reserved(row);
         self.steps.push_reserved(Step {
             left: a,

@@ -25,12 +25,12 @@ more c =
     let at : (t : ℕ) → label_at s.steps.items c.merges-k.result t ≡ label (log s.steps.items) t = λ t. ap (λ (n : ℕ). label_at s.steps.items n t) k in
     let row : (t : ℕ) → get_or c.index.result.now t 0 ≡ cell s.rows.items (length s.steps.items) t = λ t.
     ap (λ (x : List ℕ). get_or x t 0) (c.index.ensures ∙ get_or_default s.rows.items c.merges-k.result _ [] (omega (arith, k, s.rows_long)) ∙ ap (λ (n : ℕ). get_or s.rows.items n []) k) in
-    pushed s.terms.records.now s.steps.items c.push_reserved-2.new.self.items s.rows.items c.push_reserved.new.self.items c.renamed-row.result
+    pushed s.terms.records.now s.steps.items c.push_reserved-2.new.self.items s.rows.items c.push_reserved.new.self.items c.rename.new.row
     c.args.a c.args.b c.max-high.result c.min-low.result c.args.reason c.push_reserved-2.ensures.items c.push_reserved.ensures.items s.formed s.rows_long s.tabled c.requires.left c.requires.right
     c.requires.apart c.requires.rests
     (omega (arith, c.max-high.ensures, c.label-x.ensures, c.label-y.ensures, at c.args.a, at c.args.b))
     (omega (arith, c.min-low.ensures, c.label-x.ensures, c.label-y.ensures, at c.args.a, at c.args.b))
-    (λ t h. c.renamed-row.ensures t h ∙ ap (relabel c.max-high.result c.min-low.result) (row t))
+    (λ t h. c.rename.ensures t h ∙ ap (relabel c.max-high.result c.min-low.result) (row t))
 
 pub invariant_of-self : goal.invariant_of-self
 invariant_of-self c =
