@@ -55,7 +55,7 @@ needed_none ts (s ∷ older) p t =
     cond-true (eqb (label older t) (label older t)) (needed ts older p t t) _ (eq-eqb (label older t) (label older t) refl) ∙ needed_none ts older p t
 
 -- two terms of one class stay so
-stay : (ss : List Step) (t u k n : ℕ) → k ≤ n → label_at ss k t ≡ label_at ss k u → label_at ss n t ≡ label_at ss n u
+pub stay : (ss : List Step) (t u k n : ℕ) → k ≤ n → label_at ss k t ≡ label_at ss k u → label_at ss n t ≡ label_at ss n u
 stay ss t u k zero h e = subst (λ (x : ℕ). label_at ss x t ≡ label_at ss x u) (let z : k ≡ 0 = omega arith in z) e
 stay ss t u k (suc n) h e = ⊎_elim
     (λ (q : k ≡ suc n). subst (λ (x : ℕ). label_at ss x t ≡ label_at ss x u) q e)

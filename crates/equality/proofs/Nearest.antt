@@ -1,6 +1,7 @@
 -- Searches from above, and the nearest earlier term with one head. Assumes nothing.
-use Rattle.std.proofs.Common.{◌≡◌, ℕ, zero, suc, ◌+◌, ◌<◌, ◌≤◌, true, false, eqb, List, Some, None, Option, sym, refl, ap, ◌∙◌, subst, ⊎_elim, add-one, arith}
+use Rattle.std.proofs.Common.{◌≡◌, ℕ, zero, suc, ◌+◌, ◌<◌, ◌≤◌, true, false, eqb, List, length, take, Some, None, Option, MatchOption, sym, refl, ap, ◌∙◌, subst, ⊎_elim, add-one, arith, get_or-take}
 use Rattle.std.proofs.lemmas.Bool.{cases_eq, eq-eqb, eqb-true, and_parts, and_from}
+use Rattle.std.proofs.lemmas.List.{length-take-le}
 use Rattle.theory.specs.declared.term.Term.{Term}
 use Rattle.theory.specs.Terms.{at}
 use Rattle.congruence.specs.Merges.{when, or_else, last}
@@ -44,7 +45,7 @@ last_top {A} (suc n) f x e = go (last_top n f x) (f n) refl e
 
 -- ---- heads
 
-abbrev pub heads : List Term → ℕ → ℕ → Option ℕ
+abbrev heads : List Term → ℕ → ℕ → Option ℕ
 heads ts t u = when (same_head (at ts t) (at ts u)) u
 
 head_true : (ts : List Term) (t u : ℕ) → same_head (at ts t) (at ts u) ≡ true → SameHead ts t u
@@ -83,3 +84,29 @@ nearest_above ts t (Some u) e =
 
 pub above : (ts : List Term) (t : ℕ) → (left (nearest ts t) ≤ t) × ((w : ℕ) → left (nearest ts t) ≤ w → w < t → SameHead ts t w → ⊥)
 above ts t = nearest_above ts t (nearest ts t) refl
+
+-- ---- the search for it
+
+pub last_found : (ts : List Term) (t : ℕ) (o : Option ℕ) → t < length ts
+    → MatchOption o ((w : ℕ) → w < length (take t ts) → same_head (at ts t) (at (take t ts) w) ≡ false)
+    (λ u. (u < length (take t ts)) × (same_head (at ts t) (at (take t ts) u) ≡ true) × ((w : ℕ) → u < w → w < length (take t ts) → same_head (at ts t) (at (take t ts) w) ≡ false))
+    → o ≡ nearest ts t
+last_found ts t o h = go o
+  where
+    size : length (take t ts) ≡ t
+    size = length-take-le t ts (omega arith)
+
+    here : (w : ℕ) → w < t → same_head (at ts t) (at (take t ts) w) ≡ same_head (at ts t) (at ts w)
+    here w a = ap (same_head (at ts t)) (get_or-take t ts w _ a)
+
+    miss : (w : ℕ) → w < t → same_head (at ts t) (at (take t ts) w) ≡ false → heads ts t w ≡ None
+    miss w a e = ap (λ b. when b w) (sym (here w a) ∙ e)
+
+    go : (o : Option ℕ) → MatchOption o ((w : ℕ) → w < length (take t ts) → same_head (at ts t) (at (take t ts) w) ≡ false)
+        (λ u. (u < length (take t ts)) × (same_head (at ts t) (at (take t ts) u) ≡ true) × ((w : ℕ) → u < w → w < length (take t ts) → same_head (at ts t) (at (take t ts) w) ≡ false))
+        → o ≡ nearest ts t
+    go None m = sym (last_skip t 0 (heads ts t) (omega arith) (λ w a b. miss w b (m w (omega (arith, size)))) ∙ last_none (heads ts t))
+    go (Some u) m =
+        let low : u < t = omega (arith, m.0, size) in
+        sym (last_skip t (u + 1) (heads ts t) (omega arith) (λ w a b. miss w b (m.2 w (omega arith) (omega (arith, size))))
+        ∙ last_here u (heads ts t) u (ap (λ b. when b u) (sym (here u low) ∙ m.1)))

@@ -12,6 +12,7 @@ ghost use Rattle.equality.specs.Formed.{Formed-prop};
 use crate::terms::Terms;
 use congruence::{Claim, Reason, Step};
 use std::alloc::{AllocError, Global};
+use std::array;
 use theory::Literal;
 
 /// The merges so far, oldest first. `rows[k][t]` is the label of `t` after the first `k` merges,
@@ -32,11 +33,7 @@ pub(crate) struct Closure<'a> {
 fn own_labels() -> [u16; 256]
     ensures { (t : ℕ) → t < 256 → slice_index result t ≡ t }
 {
-    let mut row = [0; 256];
-    for (t, x) in row.iter_mut().enumerate() {
-        *x = t as u16;
-    }
-    row
+    array::from_fn(|t| t as u16)
 }
 
 /// The label that a merge makes of `x`.

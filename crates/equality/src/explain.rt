@@ -25,17 +25,9 @@ impl Closure<'_> {
         ensures below { result < upto }
         ensures joins { Joins self.now.steps.items t u result }
     {
-        let mut low = 0;
-        let mut high = upto;
-        while low + 1 < high {
-            let k = (low + high) / 2;
-            if self.label(k, t) == self.label(k, u) {
-                high = k;
-            } else {
-                low = k;
-            }
-        }
-        low
+        let t = usize::from(t);
+        let u = usize::from(u);
+        self.rows[1..=upto].partition_point(|row| row[t] != row[u])
     }
 
     /// The ends of merge number `k`, in the order in which they lie between `t` and `u`.

@@ -32,8 +32,8 @@ fn cite_all(steps: &[Step], marks: &[bool], cited: &mut [bool])
     requires clear { (p : ℕ) → p < length cited.old → slice_index_or cited.old p false ≡ false }
     ensures { (p : ℕ) → p < length cited.old → slice_index_or cited.new p false ≡ covers steps.now marks.now (length steps.now) p }
 {
-    for (j, s) in steps.iter().enumerate() {
-        cite(marks[j], s.reason, cited);
+    for (s, marked) in steps.iter().zip(marks) {
+        cite(*marked, s.reason, cited);
     }
 }
 

@@ -1,6 +1,6 @@
 //! A checked table of terms, with an index of equal heads.
-ghost use Rattle.std.specs.Prelude.{◌≡◌, ℕ, ◌<◌, ◌≤◌, None, length, IfOk, slice_index_or};
-ghost use Rattle.theory.specs.Terms.{Arities};
+ghost use Rattle.std.specs.Prelude.{◌≡◌, ℕ, ◌<◌, ◌≤◌, true, false, None, length, IfOk, MatchOption, slice_index_or};
+ghost use Rattle.theory.specs.Terms.{at, Arities};
 ghost use Rattle.congruence.specs.Table.{Lower};
 ghost use Rattle.equality.specs.Index.{same_head, nearest, Indexed};
 
@@ -27,18 +27,22 @@ fn same_head(t: &Term, u: &Term) -> bool
     t.symbol == u.symbol && t.arity == u.arity
 }
 
+/// The last of the terms that has the head of `t`.
+fn last_like(records: &[Term], t: &Term) -> Option<usize>
+    ensures { MatchOption result
+        ((w : ℕ) → w < length records.now → same_head t.now (at records.now w) ≡ false)
+        (λ u. (u < length records.now) × (same_head t.now (at records.now u) ≡ true) × ((w : ℕ) → u < w → w < length records.now → same_head t.now (at records.now w) ≡ false)) }
+{
+    records.iter().rposition(|u| same_head(t, u))
+}
+
 /// The nearest earlier term with the head of `t`.
 fn nearest(records: &[Term], t: usize) -> Option<u16>
     requires few { length records.now ≤ 256 }
     requires term { t < length records.now }
     ensures { result ≡ nearest records.now t }
 {
-    for u in (0..t).rev() {
-        if same_head(&records[t], &records[u]) {
-            return Some(u as u16);
-        }
-    }
-    None
+    last_like(&records[..t], &records[t]).map(|u| u as u16)
 }
 
 impl<'a> Terms<'a> {
