@@ -1,12 +1,12 @@
 -- Searches from above, and the nearest earlier term with one head. Assumes nothing.
-use Rattle.std.proofs.Common.{◌≡◌, ℕ, zero, suc, ◌+◌, ◌<◌, ◌≤◌, true, false, eqb, List, length, take, Some, None, Option, MatchOption, sym, refl, ap, ◌∙◌, subst, ⊎_elim, add-one, arith, get_or-take}
+use Rattle.std.proofs.Common.{◌≡◌, ℕ, zero, suc, ◌+◌, ◌<◌, ◌≤◌, true, false, eqb, List, length, take, Some, None, Option, sym, refl, ap, ◌∙◌, subst, ⊎_elim, add-one, arith, get_or-take}
 use Rattle.std.proofs.lemmas.Bool.{cases_eq, eq-eqb, eqb-true, and_parts, and_from}
 use Rattle.std.proofs.lemmas.List.{length-take-le}
 use Rattle.theory.specs.declared.term.Term.{Term}
 use Rattle.theory.specs.Terms.{at}
 use Rattle.congruence.specs.Merges.{when, or_else, last}
 use Rattle.congruence.proofs.Searches.{last_not_found, when_some, when_none}
-use Rattle.equality.specs.Index.{SameHead, same_head, nearest}
+use Rattle.equality.specs.Index.{SameHead, same_head, LastLike, nearest}
 
 -- nothing is found from `k` on
 pub last_skip : {A : Type 0} (n k : ℕ) (f : ℕ → Option A) → k ≤ n → ((w : ℕ) → k ≤ w → w < n → f w ≡ None) → last n f ≡ last k f
@@ -87,11 +87,8 @@ above ts t = nearest_above ts t (nearest ts t) refl
 
 -- ---- the search for it
 
-pub last_found : (ts : List Term) (t : ℕ) (o : Option ℕ) → t < length ts
-    → MatchOption o ((w : ℕ) → w < length (take t ts) → same_head (at ts t) (at (take t ts) w) ≡ false)
-    (λ u. (u < length (take t ts)) × (same_head (at ts t) (at (take t ts) u) ≡ true) × ((w : ℕ) → u < w → w < length (take t ts) → same_head (at ts t) (at (take t ts) w) ≡ false))
-    → o ≡ nearest ts t
-last_found ts t o h = go o
+pub last_found : (ts : List Term) (t : ℕ) (own : Term) (o : Option ℕ) → own ≡ at ts t → t < length ts → LastLike (take t ts) own o → o ≡ nearest ts t
+last_found ts t own o e h m = go o (subst (λ (x : Term). LastLike (take t ts) x o) e m)
   where
     size : length (take t ts) ≡ t
     size = length-take-le t ts (omega arith)
@@ -102,9 +99,7 @@ last_found ts t o h = go o
     miss : (w : ℕ) → w < t → same_head (at ts t) (at (take t ts) w) ≡ false → heads ts t w ≡ None
     miss w a e = ap (λ b. when b w) (sym (here w a) ∙ e)
 
-    go : (o : Option ℕ) → MatchOption o ((w : ℕ) → w < length (take t ts) → same_head (at ts t) (at (take t ts) w) ≡ false)
-        (λ u. (u < length (take t ts)) × (same_head (at ts t) (at (take t ts) u) ≡ true) × ((w : ℕ) → u < w → w < length (take t ts) → same_head (at ts t) (at (take t ts) w) ≡ false))
-        → o ≡ nearest ts t
+    go : (o : Option ℕ) → LastLike (take t ts) (at ts t) o → o ≡ nearest ts t
     go None m = sym (last_skip t 0 (heads ts t) (omega arith) (λ w a b. miss w b (m w (omega (arith, size)))) ∙ last_none (heads ts t))
     go (Some u) m =
         let low : u < t = omega (arith, m.0, size) in

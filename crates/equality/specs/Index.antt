@@ -1,5 +1,5 @@
 -- The index of a table: for each term the nearest earlier one with its head. Assumes nothing.
-use Rattle.std.specs.Prelude.{◌≡◌, ℕ, ◌<◌, Bool, ◌&&◌, List, length, None, Option, ◌==◌, slice_index_or}
+use Rattle.std.specs.Prelude.{◌≡◌, ℕ, ◌<◌, Bool, true, false, ◌&&◌, List, length, None, Option, MatchOption, ◌==◌, slice_index_or}
 use Rattle.theory.specs.declared.term.Term.{Term}
 use Rattle.theory.specs.Terms.{at}
 use Rattle.congruence.specs.Merges.{when, last}
@@ -10,6 +10,12 @@ SameHead ts t u = ((at ts t).symbol ≡ (at ts u).symbol) × ((at ts t).arity �
 
 abbrev pub same_head : Term → Term → Bool
 same_head t u = t.symbol == u.symbol && t.arity == u.arity
+
+-- the last of some terms that has a head
+abbrev pub LastLike : List Term → Term → Option ℕ → Type 0
+LastLike ts t o =
+    MatchOption o ((w : ℕ) → w < length ts → same_head t (at ts w) ≡ false)
+    (λ u. (u < length ts) × (same_head t (at ts u) ≡ true) × ((w : ℕ) → u < w → w < length ts → same_head t (at ts w) ≡ false))
 
 -- the nearest earlier term with the head of `t`, if there is one
 abbrev pub nearest : List Term → ℕ → Option ℕ

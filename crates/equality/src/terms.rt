@@ -1,10 +1,9 @@
 //! A checked table of terms, with an index of equal heads.
-ghost use Rattle.std.specs.Prelude.{◌≡◌, ℕ, ◌<◌, ◌≤◌, true, false, None, length, IfOk, MatchOption, slice_index_or};
-ghost use Rattle.theory.specs.Terms.{at, Arities};
+ghost use Rattle.std.specs.Prelude.{◌≡◌, ℕ, ◌<◌, ◌≤◌, None, length, slice_index_or};
+ghost use Rattle.theory.specs.Terms.{Arities};
 ghost use Rattle.congruence.specs.Table.{Lower};
-ghost use Rattle.equality.specs.Index.{same_head, nearest, Indexed};
+ghost use Rattle.equality.specs.Index.{same_head, LastLike, nearest, Indexed};
 
-use std::alloc::{AllocError, Global};
 use theory::Term;
 
 /// A view of the caller's records that keeps each argument lower than its own term, with the
@@ -12,12 +11,11 @@ use theory::Term;
 #[derive(Drop)]
 pub(crate) struct Terms<'a> {
     pub(crate) records: &'a [Term],
-    near: Vec<Option<u16>>,
+    near: [Option<u16>; 256],
     ghost few: { length records.now ≤ 256 },
     ghost arities: { Arities 2 records.now },
     ghost lower: { Lower records.now },
-    ghost near_long: { length near.items ≡ length records.now },
-    ghost indexed: { Indexed records.now near.items },
+    ghost indexed: { Indexed records.now near },
 }
 
 /// Whether two terms have one symbol and one number of arguments.
@@ -29,9 +27,7 @@ fn same_head(t: &Term, u: &Term) -> bool
 
 /// The last of the terms that has the head of `t`.
 fn last_like(records: &[Term], t: &Term) -> Option<usize>
-    ensures { MatchOption result
-        ((w : ℕ) → w < length records.now → same_head t.now (at records.now w) ≡ false)
-        (λ u. (u < length records.now) × (same_head t.now (at records.now u) ≡ true) × ((w : ℕ) → u < w → w < length records.now → same_head t.now (at records.now w) ≡ false)) }
+    ensures { LastLike records.now t.now result }
 {
     records.iter().rposition(|u| same_head(t, u))
 }
@@ -46,17 +42,17 @@ fn nearest(records: &[Term], t: usize) -> Option<u16>
 }
 
 impl<'a> Terms<'a> {
-    pub(crate) fn new(heap: Global, records: &'a [Term]) -> Result<Terms<'a>, AllocError>
+    pub(crate) fn new(records: &'a [Term]) -> Terms<'a>
         requires few { length records.now ≤ 256 }
         requires arities { Arities 2 records.now }
         requires lower { Lower records.now }
-        ensures { IfOk result (λ t. t.records.now ≡ records.now) }
+        ensures { result.records.now ≡ records.now }
     {
-        let mut near = Vec::with_capacity(heap, records.len())?;
+        let mut near = [None; 256];
         for t in 0..records.len() {
-            near.push_reserved(nearest(records, t));
+            near[t] = nearest(records, t);
         }
-        Ok(Terms { records, near })
+        Terms { records, near }
     }
 
     /// The number of terms, which is at most 256.

@@ -15,7 +15,7 @@ fn build<'a>(heap: Global, terms: &'a [Term], claims: &'a [Claim]) -> Result<Equ
     requires { Sound terms.now claims.now }
     ensures { Made terms.now claims.now result }
 {
-    let closure = Closure::new(heap, Terms::new(heap, terms)?)?;
+    let closure = Closure::new(heap, Terms::new(terms))?;
     let list = Vec::with_capacity(heap, claims.len())?;
     let mut merges = Vec::with_capacity(heap, claims.len() + 1)?;
     merges.push_reserved(closure.merges());

@@ -42,10 +42,10 @@ invariant_of-result c =
     let merges = c.push_reserved.new.self in
     let marks = c.in_ok-marks.marks in
     let clear : vec_items marks ≡ replicate 256 false = search rules in
-    let same : closure.terms.records.now ≡ ts = c.in_ok-closure.ensures.terms ∙ c.in_ok-new.ensures in
+    let same : closure.terms.records.now ≡ ts = c.in_ok-closure.ensures.terms ∙ c.new.ensures in
     let h = none ts closure.terms.records.now claims (vec_items list) (vec_items merges) closure.steps.items same c.in_ok-list.ensures.items
     (c.push_reserved.ensures.items ∙ ap (λ (xs : List ℕ). xs ++ c.merges.result ∷ []) c.in_ok-merges.ensures.items ∙ ap (λ (n : ℕ). [] ++ n ∷ []) c.merges.ensures)
-    (c.in_ok-closure.ensures.settled ∙ ap (λ (us : List Term). settle us (length us) []) c.in_ok-new.ensures) in
+    (c.in_ok-closure.ensures.settled ∙ ap (λ (us : List Term). settle us (length us) []) c.new.ensures) in
     record {
       few = c.requires.limits.few_claims;
       named = subst (λ (us : List Term). Named us claims) (sym same) c.requires.named;
@@ -66,7 +66,7 @@ returns c =
     let p = c.requires in (
       p,
       record {
-        terms_are = c.in_ok-closure.ensures.terms ∙ c.in_ok-new.ensures;
+        terms_are = c.in_ok-closure.ensures.terms ∙ c.new.ensures;
         claims_are = refl;
         nothing = c.in_ok-list.ensures.items;
         stands = stands c.args.terms.now c.args.claims.now p.limits.few_terms p.lower p.limits.few_claims p.named;
