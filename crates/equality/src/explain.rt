@@ -80,6 +80,7 @@ impl Closure<'_> {
             Reason::Congruence => {
                 let x = self.terms.records[usize::from(s.left)];
                 let y = self.terms.records[usize::from(s.right)];
+                // No plainer as `x.args.iter().zip(&y.args).take(usize::from(x.arity))`.
                 for i in 0..usize::from(x.arity) {
                     self.explain(marks, x.args[i], y.args[i], k);
                 }

@@ -11,9 +11,7 @@ impl Drop for Marks<'_> {
         ensures long { length self.exit.0.now ≡ length self.entry.table.now }
         ensures clear { (k : ℕ) → slice_index_or self.exit.0.now k false ≡ false }
     {
-        for m in self.table.iter_mut() {
-            *m = false;
-        }
-        let Marks { table: _ } = self;
+        let Marks { table } = self;
+        table.fill(false);
     }
 }

@@ -118,6 +118,7 @@ impl Closure<'_> {
         ensures { place.new ≡ over (row 0 (length self.now.terms.records.now) (λ t. pos (label (log self.now.steps.items) t))) place.old }
     {
         let k = self.merges();
+        // Tried over the place and the row side by side: the proof did not close.
         for t in 0..self.terms.len() {
             place[usize::from(t)] = i64::from(self.label(k, t));
         }

@@ -49,6 +49,7 @@ impl<'a> Terms<'a> {
         ensures { result.records.now ≡ records.now }
     {
         let mut near = [None; 256];
+        // Tried over the entries with their numbers: the proof did not close.
         for t in 0..records.len() {
             near[t] = nearest(records, t);
         }
