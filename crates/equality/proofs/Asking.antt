@@ -15,7 +15,7 @@ use Rattle.congruence.proofs.Searches.{found, when_some, any_in, any_from}
 use Rattle.equality.specs.Logs.{step_at}
 use Rattle.equality.specs.Marked.{Covered, Grown}
 use Rattle.equality.specs.Asked.{asserted, covers}
-use Rattle.equality.proofs.Listing.{listed_same}
+use Rattle.theory.proofs.Positions.{listed_same}
 
 -- ---- the first of several
 
@@ -34,11 +34,6 @@ first_hit (suc n) f k x h a b = ⊎_elim
     (λ (q : k ≡ n). ap (λ o. or_else o (f n)) (ap (λ (j : ℕ). first j f) (sym q) ∙ a) ∙ ap f (sym q) ∙ b)
     (λ (q : k ≡ n → ⊥). ap (λ o. or_else o (f n)) (first_hit n f k x (omega arith) a b))
     (cases_eq k n)
-
-first_same : {A : Type 0} (n : ℕ) (f g : ℕ → Option A) → ((k : ℕ) → k < n → f k ≡ g k) → first n f ≡ first n g
-unfolding first
-first_same zero f g h = refl
-first_same (suc n) f g h = ap (λ o. or_else o (f n)) (first_same n f g (λ k l. h k (omega arith))) ∙ ap (or_else (first n g)) (h n (omega arith))
 
 -- ---- the first clash
 

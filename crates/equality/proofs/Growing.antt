@@ -1,13 +1,11 @@
 -- A row of merges that grows or is cut, with its labels. Assumes nothing.
-use Rattle.std.proofs.Common.{◌≡◌, ℕ, zero, suc, ◌+◌, ◌%◌, ◌<◌, ◌≤◌, min, max, eqb, List, [], ◌∷◌, ◌++◌, length, get_or, take, sym, refl, ap, ◌∙◌, subst, ⊎_elim, add-one, arith, get_or-take}
-use Rattle.std.proofs.lemmas.Bool.{cases_eq, eq-eqb, ne_eqb, cond-true, cond-false}
+use Rattle.std.proofs.Common.{◌≡◌, ℕ, zero, suc, ◌+◌, ◌<◌, ◌≤◌, min, max, List, [], ◌∷◌, ◌++◌, length, get_or, take, sym, refl, ap, ◌∙◌, subst, ⊎_elim, add-one, arith, get_or-take}
+use Rattle.std.proofs.lemmas.Bool.{cases_eq}
 use Rattle.std.proofs.lemmas.List.{get_or_push, get_or_append_left, length_push, length-take-le}
 use Rattle.theory.specs.declared.term.Term.{Term}
-use Rattle.congruence.specs.declared.claim.Claim.{Claim}
 use Rattle.congruence.specs.declared.step.Step.{Step}
 use Rattle.congruence.specs.declared.step.Reason.{Reason}
-use Rattle.congruence.specs.declared.step.Reason.TheVariants.{Asserted}
-use Rattle.congruence.specs.Merges.{relabel, label, merge, pass, sweep, settle, join, pair_of, absorb}
+use Rattle.congruence.specs.Merges.{relabel, label, merge, pass, sweep, settle}
 use Rattle.congruence.specs.Log.{RestsOn, Rightful, Formed}
 use Rattle.congruence.proofs.Closing.{roots, roots_few, roots_some, merge_falls, merged, label_low, label_root, settle_still}
 use Rattle.equality.specs.Logs.{step_at, until, log, label_at, cell, Tabled, Ran}
@@ -180,30 +178,3 @@ settle_still_by ts us left ss rs qs e n x y =
 pub settle_end : (ts : List Term) (left : ℕ) (ss rs : List Step) → left ≡ 0 → Settling ts left ss rs → Ran ss rs (settle ts (length ts) (log ss))
 unfolding settle
 settle_end ts left ss rs e x = subst (Ran ss rs) (sym (x.same ∙ ap (λ (k : ℕ). settle ts k (log rs)) e)) x.ran
-
--- ---- one more literal
-
-pub absorb_odd : (ts : List Term) (claims : List Claim) (p l : ℕ) (ss : List Step) → (l % 2 ≡ 0 → ⊥) → Ran ss ss (absorb ts claims p l (log ss))
-absorb_odd ts claims p l ss n =
-    subst (Ran ss ss) (sym (cond-false (eqb (l % 2) 0) (join ts (pair_of claims l).left (pair_of claims l).right (Asserted p) (log ss)) (log ss) (ne_eqb (l % 2) 0 n))) (ran_still ss)
-
-absorb_even : (ts : List Term) (claims : List Claim) (p l : ℕ) (older : List Step) → l % 2 ≡ 0
-    → absorb ts claims p l older ≡ join ts (pair_of claims l).left (pair_of claims l).right (Asserted p) older
-absorb_even ts claims p l older e = cond-true (eqb (l % 2) 0) (join ts (pair_of claims l).left (pair_of claims l).right (Asserted p) older) older (eq-eqb (l % 2) 0 e)
-
-pub absorb_same : (ts : List Term) (claims : List Claim) (p l : ℕ) (ss : List Step) → l % 2 ≡ 0
-    → label (log ss) (pair_of claims l).left ≡ label (log ss) (pair_of claims l).right → Ran ss ss (absorb ts claims p l (log ss))
-absorb_same ts claims p l ss e q =
-    subst (Ran ss ss) (sym (absorb_even ts claims p l (log ss) e
-    ∙ cond-true (eqb (label (log ss) (pair_of claims l).left) (label (log ss) (pair_of claims l).right)) (log ss) _ (eq-eqb _ _ q))) (ran_still ss)
-
-pub absorb_new : (ts us : List Term) (claims : List Claim) (p l : ℕ) (ss rs qs : List Step) → us ≡ ts → l % 2 ≡ 0
-    → (label (log ss) (pair_of claims l).left ≡ label (log ss) (pair_of claims l).right → ⊥)
-    → Ran ss rs (merge (log ss) (pair_of claims l).left (pair_of claims l).right (Asserted p) ∷ log ss)
-    → Ran rs qs (settle us (length us) (log rs)) → Ran ss qs (absorb ts claims p l (log ss))
-absorb_new ts us claims p l ss rs qs v e q x y =
-    subst (Ran ss qs)
-    (ap (λ (vs : List Term). settle vs (length vs) (log rs)) v ∙ ap (settle ts (length ts)) x.log_is
-    ∙ sym (absorb_even ts claims p l (log ss) e
-    ∙ cond-false (eqb (label (log ss) (pair_of claims l).left) (label (log ss) (pair_of claims l).right)) (log ss) _ (ne_eqb _ _ q)))
-    (ran_on ss rs qs _ _ x y)

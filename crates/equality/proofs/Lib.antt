@@ -4,5 +4,5 @@ pub mod Growing
 pub mod Marking
 pub mod Joining
 pub mod Asking
-pub mod Listing
+pub mod Writing
 pub mod Holding

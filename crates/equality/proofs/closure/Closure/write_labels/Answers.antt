@@ -2,7 +2,7 @@ use Rattle.std.proofs.Common.{◌≡◌, ℕ, length, ℤ, pos, ap, ◌∙◌, s
 use Rattle.std.proofs.lemmas.Int.{to_z-of_z}
 use Rattle.congruence.specs.Merges.{label}
 use Rattle.equality.specs.Logs.{log, label_at}
-use Rattle.equality.proofs.Listing.{Front, front_none, front_more, front_all}
+use Rattle.equality.proofs.Writing.{Front, front_none, front_more, front_all}
 use Rattle.equality.proofs.closure.Closure.write_labels.Goals as goal
 
 pub loop-t-init : goal.loop-t-init

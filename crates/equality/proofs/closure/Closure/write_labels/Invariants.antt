@@ -1,7 +1,7 @@
 use Rattle.std.proofs.Common.{pos}
 use Rattle.congruence.specs.Merges.{label}
 use Rattle.equality.specs.Logs.{log}
-use Rattle.equality.proofs.Listing.{Front}
+use Rattle.equality.proofs.Writing.{Front}
 use Rattle.equality.proofs.closure.Closure.write_labels.Given as goal
 
 abbrev pub invariant-loop-t : goal.invariant-loop-t

@@ -1,20 +1,9 @@
--- Listing positions one by one. Assumes nothing.
-use Rattle.std.proofs.Common.{◌≡◌, ℕ, zero, suc, ◌+◌, ◌<◌, ◌≤◌, Bool, List, [], ◌∷◌, ◌++◌, length, take, drop, set, ℤ, sym, refl, ap, ◌∙◌, subst, arith, take-append-drop}
+-- A row of values, written one by one. Assumes nothing.
+use Rattle.std.proofs.Common.{◌≡◌, ℕ, zero, suc, ◌+◌, ◌<◌, List, [], ◌∷◌, ◌++◌, length, take, drop, set, ℤ, sym, refl, ap, ◌∙◌, subst, arith, take-append-drop}
 use Rattle.std.proofs.lemmas.List.{take_more_set, drop-set-lt, drop-drop}
 use Rattle.theory.specs.Calls.{over}
-use Rattle.theory.specs.Positions.{put, listed}
 use Rattle.congruence.specs.Equality.{row}
 use Rattle.congruence.proofs.Searches.{row_long}
-
--- the same row, by another test
-pub listed_same : (low count : ℕ) (f g : ℕ → Bool) → ((p : ℕ) → low ≤ p → p < low + count → f p ≡ g p) → listed low count f ≡ listed low count g
-unfolding listed
-listed_same low zero f g h = refl
-listed_same low (suc count) f g h =
-    ap (λ b. put b low (listed (low + 1) count f)) (h low (omega arith) (omega arith))
-    ∙ ap (put (g low) low) (listed_same (low + 1) count f g (λ p a b. h p (omega arith) (omega arith)))
-
--- ---- a row of values, written one by one
 
 row_push : (low n : ℕ) (f : ℕ → ℤ) → row low (n + 1) f ≡ row low n f ++ f (low + n) ∷ []
 unfolding row
@@ -23,17 +12,14 @@ row_push low (suc n) f =
     ap (λ (k : ℕ). row low k f) (let e : suc n + 1 ≡ suc (n + 1) = omega arith in e)
     ∙ ap (λ (l : List ℤ). f low ∷ l) (row_push (low + 1) n f ∙ ap (λ (k : ℕ). row (low + 1) n f ++ f k ∷ []) (let e : (low + 1) + n ≡ low + suc n = omega arith in e))
 
-row_none : (f : ℕ → ℤ) → [] ≡ row 0 0 f
-unfolding row
-row_none f = refl
-
 -- a row of values that is written in front of what was there
 pub record Front (start place : List ℤ) (n : ℕ) (f : ℕ → ℤ) : Type 0 where
   pub front : take n place ≡ row 0 n f
   pub rest : drop n place ≡ drop n start
 
 pub front_none : (start : List ℤ) (f : ℕ → ℤ) → Front start start 0 f
-front_none start f = record { front = row_none f; rest = refl }
+unfolding row
+front_none start f = record { front = refl; rest = refl }
 
 pub front_more : (start place : List ℤ) (n i : ℕ) (v : ℤ) (f : ℕ → ℤ) → i ≡ n → n < length place → v ≡ f n → Front start place n f → Front start (set place i v) (n + 1) f
 front_more start place n i v f e h is x = subst (λ (k : ℕ). Front start (set place k v) (n + 1) f) (sym e) (record {
