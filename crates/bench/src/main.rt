@@ -5,77 +5,64 @@ use anyhow::anyhow;
 use congruence::Claim;
 use equality::make;
 use std::alloc::{AllocError, Global};
-use std::env;
 use std::time::Instant;
-use theory::{Found, Term, Theory, Unmade};
+use std::{env, iter};
+use theory::{Found, Refusal, Term, Theory, Unmade};
+
+fn constant(symbol: u16) -> Term {
+    Term {
+        symbol,
+        arity: 0,
+        args: [0, 0],
+    }
+}
+
+/// A symbol of one argument, applied to a term.
+fn over(below: u16) -> Term {
+    Term {
+        symbol: 2,
+        arity: 1,
+        args: [below, 0],
+    }
+}
+
+fn same(left: u16, right: u16) -> Claim {
+    Claim { left, right }
+}
 
 /// Constants with a chain of claims between neighbours, and one claim between its ends.
 fn chain(heap: Global) -> Result<(Vec<Term>, Vec<Claim>), AllocError> {
-    let mut terms = Vec::new(heap);
-    let mut claims = Vec::new(heap);
-    for symbol in 0..256u16 {
-        terms.push(Term {
-            symbol,
-            arity: 0,
-            args: [0, 0],
-        })?;
-    }
-    for left in 0..127u16 {
-        claims.push(Claim {
-            left,
-            right: left + 1,
-        })?;
-    }
-    claims.push(Claim {
-        left: 0,
-        right: 127,
-    })?;
+    let terms = (0..256u16).map(constant).collect(heap)?;
+    let claims = (1..128u16)
+        .map(|right| same(right.saturating_sub(1), right))
+        .chain(iter::once(same(0, 127)))
+        .collect(heap)?;
     Ok((terms, claims))
 }
 
 /// Two towers of one symbol over two constants, and the claims that their feet and their tops are equal.
 fn towers(heap: Global) -> Result<(Vec<Term>, Vec<Claim>), AllocError> {
-    let mut terms = Vec::new(heap);
-    let mut claims = Vec::new(heap);
-    for symbol in 0..2u16 {
-        terms.push(Term {
-            symbol,
-            arity: 0,
-            args: [0, 0],
-        })?;
-    }
-    for below in 0..254u16 {
-        terms.push(Term {
-            symbol: 2,
-            arity: 1,
-            args: [below, 0],
-        })?;
-    }
-    claims.push(Claim { left: 0, right: 1 })?;
-    claims.push(Claim {
-        left: 254,
-        right: 255,
-    })?;
+    let terms = (0..2u16)
+        .map(constant)
+        .chain((0..254u16).map(over))
+        .collect(heap)?;
+    let claims = vec![in heap; same(0, 1), same(254, 255)]?;
     Ok((terms, claims))
 }
 
-/// Asserts every claim but the last, and denies that one.
-fn assert_all<T: Theory>(theory: &mut T) {
-    let n = theory.claims();
-    for i in 1..n {
-        if let Ok(i) = u16::try_from(i) {
-            let _ = theory.assert((i - 1).wrapping_mul(2));
-        }
+/// Asserts the claims before the last, and denies the last.
+fn assert_all<T: Theory>(theory: &mut T, last: u16) -> Result<(), Refusal> {
+    for claim in 0..last {
+        theory.assert(claim.wrapping_mul(2))?;
     }
-    if let Ok(n) = u16::try_from(n) {
-        let _ = theory.assert(n.wrapping_mul(2).wrapping_sub(1));
-    }
+    theory.assert(last.wrapping_mul(2).wrapping_add(1))
 }
 
-fn core_len<T: Theory>(theory: &mut T, core: &mut [u16]) -> usize {
+/// The length of the core, if what is asserted is impossible.
+fn core_len<T: Theory>(theory: &mut T, core: &mut [u16]) -> Option<usize> {
     match theory.query(core) {
-        Ok(Found::Impossible(n)) => n,
-        _ => 0,
+        Ok(Found::Impossible(n)) => Some(n),
+        _ => None,
     }
 }
 
@@ -85,17 +72,18 @@ fn run<T: Theory + Drop>(
     name: &str,
     timed: bool,
     made: Result<T, Unmade>,
+    last: u16,
 ) -> anyhow::Result<()> {
-    let Ok(mut theory) = made else {
-        return Err(anyhow!("no theory was made"));
-    };
+    let mut theory = made.map_err(|e| anyhow!("{name}: {e}"))?;
     let mut core = vec![in rt.alloc(); 0u16; 128]?;
     let start = Instant::now(rt)?;
-    assert_all(&mut theory);
+    let told = assert_all(&mut theory, last);
     let asserted = start.elapsed(rt)?;
+    told.map_err(|e| anyhow!("{name}: {e}"))?;
     let start = Instant::now(rt)?;
-    let n = core_len(&mut theory, &mut core);
+    let found = core_len(&mut theory, &mut core);
     let queried = start.elapsed(rt)?;
+    let n = found.ok_or_else(|| anyhow!("{name}: no core"))?;
     println!(rt; "{name}: a core of {n}")?;
     if timed {
         let a = asserted.as_nanos();
@@ -108,7 +96,7 @@ fn run<T: Theory + Drop>(
 fn main(rt: HostRuntime) -> anyhow::Result<()> {
     let timed = env::args(&rt)?.count() > 1;
     let (terms, claims) = chain(rt.alloc())?;
-    run(&rt, "chain", timed, make(rt.alloc(), &terms, &claims))?;
+    run(&rt, "chain", timed, make(rt.alloc(), &terms, &claims), 127)?;
     let (terms, claims) = towers(rt.alloc())?;
-    run(&rt, "towers", timed, make(rt.alloc(), &terms, &claims))
+    run(&rt, "towers", timed, make(rt.alloc(), &terms, &claims), 1)
 }

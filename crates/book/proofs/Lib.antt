@@ -1,6 +1,5 @@
 pub mod Cuts
 pub mod Numbers
-pub mod Shorts
 pub mod Turns
 pub mod Spaced
 pub mod Written

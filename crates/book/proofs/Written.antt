@@ -1,17 +1,17 @@
 -- What written names and numbers are as words. Assumes nothing.
-use Rattle.std.proofs.Common.{◌≡◌, ℕ, ◌^◌, ◌<◌, ◌≤◌, true, false, cond, eqb, leb, List, [], ◌∷◌, map, length, Some, None, decimal, sym, refl, ap, ◌∙◌, arith, rules}
-use Rattle.std.specs.List.{AllByRecursion}
+use Rattle.std.proofs.Common.{◌≡◌, ℕ, ◌^◌, ◌<◌, ◌≤◌, true, false, cond, eqb, leb, ltb, List, [], ◌∷◌, map, length, Some, None, decimal, refl, ap, ◌∙◌, arith, rules}
+use Rattle.std.specs.Char.{is_ascii_digit}
+use Rattle.std.specs.List.{AllByRecursion, list_all}
 use Rattle.std.specs.Str.{bytes_eq}
 use Rattle.std.proofs.lemmas.Fmt.{decimal_nonempty, digits_decimal, digits_value-decimal}
 use Rattle.std.proofs.lemmas.Str.Parse.{IsNumeralModel, numerals_by_fold}
-use Rattle.std.proofs.lemmas.Bool.{ne_eqb, and_parts, and_left, leb-true}
+use Rattle.std.proofs.lemmas.Bool.{ne_eqb, and_parts, and_left, leb-true, ltb-true, lt-ltb}
 use Rattle.book.specs.declared.word.Name.{Name}
 use Rattle.book.specs.declared.word.Name.TheVariants.{Kind as kind, Ask as ask, Equality}
 use Rattle.book.specs.declared.word.Kind.TheVariants.{Theory, Term, Claim, Call}
 use Rattle.book.specs.declared.word.Ask.TheVariants.{Assert, TakeBack, Query, Write, Trial, Close}
 use Rattle.book.specs.declared.word.Word.TheVariants.{Known, Number, Other}
-use Rattle.book.specs.Words.{spelling, first_spelled, name_of, digit, digits, value_after, held, sized, number_of, name_or, word_of}
-use Rattle.book.proofs.Numbers.{held_within}
+use Rattle.book.specs.Words.{spelling, first_spelled, name_of, digits, value_after, held, sized, number_of, name_or, word_of}
 use Rattle.book.proofs.Spaced.{Plain, plain_by}
 
 -- ---- names
@@ -30,18 +30,21 @@ name_word (ask Trial) = refl
 name_word (ask Close) = refl
 name_word Equality = refl
 
+above : (w : List ℕ) → 0 < length w → list_all (ltb 35) w ≡ true → Plain w
+above = plain_by (ltb 35) (λ b h. ltb-true 35 b h)
+
 pub name_plain : (n : Name) → Plain (spelling n)
-name_plain (kind Theory) = plain_by (spelling (kind Theory)) (omega arith) refl
-name_plain (kind Term) = plain_by (spelling (kind Term)) (omega arith) refl
-name_plain (kind Claim) = plain_by (spelling (kind Claim)) (omega arith) refl
-name_plain (kind Call) = plain_by (spelling (kind Call)) (omega arith) refl
-name_plain (ask Assert) = plain_by (spelling (ask Assert)) (omega arith) refl
-name_plain (ask TakeBack) = plain_by (spelling (ask TakeBack)) (omega arith) refl
-name_plain (ask Query) = plain_by (spelling (ask Query)) (omega arith) refl
-name_plain (ask Write) = plain_by (spelling (ask Write)) (omega arith) refl
-name_plain (ask Trial) = plain_by (spelling (ask Trial)) (omega arith) refl
-name_plain (ask Close) = plain_by (spelling (ask Close)) (omega arith) refl
-name_plain Equality = plain_by (spelling Equality) (omega arith) refl
+name_plain (kind Theory) = above (spelling (kind Theory)) (omega arith) refl
+name_plain (kind Term) = above (spelling (kind Term)) (omega arith) refl
+name_plain (kind Claim) = above (spelling (kind Claim)) (omega arith) refl
+name_plain (kind Call) = above (spelling (kind Call)) (omega arith) refl
+name_plain (ask Assert) = above (spelling (ask Assert)) (omega arith) refl
+name_plain (ask TakeBack) = above (spelling (ask TakeBack)) (omega arith) refl
+name_plain (ask Query) = above (spelling (ask Query)) (omega arith) refl
+name_plain (ask Write) = above (spelling (ask Write)) (omega arith) refl
+name_plain (ask Trial) = above (spelling (ask Trial)) (omega arith) refl
+name_plain (ask Close) = above (spelling (ask Close)) (omega arith) refl
+name_plain Equality = above (spelling Equality) (omega arith) refl
 
 -- a digit begins no name
 differs : (n : Name) (b : ℕ) (bs : List ℕ) → b ≤ 57 → bytes_eq (b ∷ bs) (spelling n) ≡ false
@@ -65,26 +68,18 @@ none_spelled (n ∷ ns) b bs h = ap (λ t. cond t (Some n) (first_spelled ns (b 
 -- ---- numbers
 
 own : IsNumeralModel (λ ds. digits ds ≡ true) (value_after 0)
-unfolding digits value_after
+unfolding value_after
 own = numerals_by_fold _ (search rules) value_after (search rules)
 
-digits_head : (b : ℕ) (bs : List ℕ) → digits (b ∷ bs) ≡ true → (48 ≤ b) × (b ≤ 57) × (digits bs ≡ true)
-unfolding digits
-digits_head b bs h =
-    let p = and_parts (digit b) (digits bs) h in
-    let q = and_parts (leb 48 b) (leb b 57) p.0 in
-    (leb-true 48 b q.0, leb-true b 57 q.1, p.1)
-
-digits_above : (bs : List ℕ) → digits bs ≡ true → AllByRecursion (λ b. 35 < b) bs
-digits_above [] h = tt
-digits_above (b ∷ bs) h = let p = digits_head b bs h in (omega (arith, p.0), digits_above bs p.2)
+digit_within : (b : ℕ) → is_ascii_digit b ≡ true → (48 ≤ b) × (b ≤ 57)
+digit_within b h = let q = and_parts (leb 48 b) (leb b 57) h in (leb-true 48 b q.0, leb-true b 57 q.1)
 
 no_name : (w : List ℕ) → 0 < length w → digits w ≡ true → name_of w ≡ None
 no_name [] some h = absurd (omega arith)
-no_name (b ∷ bs) some h = none_spelled _ b bs (digits_head b bs h).1
+no_name (b ∷ bs) some h = none_spelled _ b bs (digit_within b (and_parts (is_ascii_digit b) (digits bs) h).0).1
 
 pub number_plain : (n : ℕ) → n < 2 ^ 64 → Plain (decimal n)
-number_plain n h = (decimal_nonempty n h, digits_above (decimal n) (digits_decimal own n h))
+number_plain n h = plain_by is_ascii_digit (λ b k. let q = digit_within b k in omega (arith, q.0)) (decimal n) (decimal_nonempty n h) (digits_decimal own n h)
 
 pub number_word : (n : ℕ) → n < 2 ^ 64 → word_of (decimal n) ≡ Number n
 number_word n h =
@@ -92,7 +87,7 @@ number_word n h =
     ap (λ o. name_or o (number_of (decimal n))) (no_name (decimal n) (decimal_nonempty n h) d)
     ∙ ap (λ t. cond t (sized (held (value_after 0 (decimal n)))) Other) d
     ∙ ap (λ k. sized (held k)) (digits_value-decimal own n h)
-    ∙ ap sized (sym (held_within n h))
+    ∙ ap (λ t. sized (cond t (Some n) None)) (lt-ltb n (2 ^ 64) h)
 
 pub number_words : (ns : List ℕ) → AllByRecursion (λ n. n < 65536) ns → map word_of (map decimal ns) ≡ map Number ns
 number_words [] h = refl

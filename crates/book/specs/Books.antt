@@ -13,8 +13,7 @@ use Rattle.book.specs.declared.line.Said.{Said}
 use Rattle.book.specs.declared.line.Said.TheVariants.{Nothing, Theory, Term, Claim, Call}
 use Rattle.book.specs.declared.reading.Stage.{Stage}
 use Rattle.book.specs.declared.reading.Stage.TheVariants.{Start, Terms, Claims, Calls}
-use Rattle.book.specs.declared.scan.Mark.TheVariants.{Newline}
-use Rattle.book.specs.Pieces.{pieces}
+use Rattle.book.specs.Pieces.{lines}
 use Rattle.book.specs.Words.{words_of}
 use Rattle.book.specs.Lines.{and_then, said_by}
 
@@ -95,7 +94,7 @@ reads n s b (l ∷ ls) = and_then (turn (n + 1) s b l) (λ p. reads (n + 1) p.0 
 
 -- what a text means: the contents of a book, or its first fault
 abbrev pub meant : List ℕ → Result Contents Fault
-meant text = reads 0 Start none (pieces Newline text)
+meant text = reads 0 Start none (lines text)
 
 -- a reply tells a meaning, unless memory was short
 abbrev pub Tells : {A B : Type 0} → Result A Unread → (A → B) → Result B Fault → Type 0

@@ -1,6 +1,6 @@
 -- The canonical text of a book: a line for each item, with single blanks. Assumes nothing.
 use Rattle.std.specs.Prelude.{◌≡◌, ℕ, ◌+◌, ◌^◌, ◌<◌, ◌≤◌, List, [], ◌∷◌, ◌++◌, map, length, take, Some, None, Ok, codes, decimal, Option}
-use Rattle.std.specs.List.{AllByRecursion}
+use Rattle.std.specs.List.{All}
 use Rattle.theory.specs.declared.term.Term.{Term}
 use Rattle.congruence.specs.declared.claim.Claim.{Claim}
 use Rattle.book.specs.declared.contents.Asked.{Asked}
@@ -51,7 +51,7 @@ book_lines ts cs ks = theory_line ∷ (map term_line ts ++ (map claim_line cs ++
 -- ---- What can be written: numbers that fit their fields, and at most two arguments, with 0 past them
 
 abbrev pub TermFits : Term → Type 0
-TermFits t = (t.symbol < 65536) × (t.arity ≤ 2) × (t.args ≡ first_two (take t.arity t.args)) × AllByRecursion (λ n. n < 65536) (take t.arity t.args)
+TermFits t = (t.symbol < 65536) × (t.arity ≤ 2) × (t.args ≡ first_two (take t.arity t.args)) × All (λ n. n < 65536) (take t.arity t.args)
 
 abbrev pub ClaimFits : Claim → Type 0
 ClaimFits k = (k.left < 65536) × (k.right < 65536)
@@ -77,4 +77,4 @@ numbered n (k ∷ ks) = record { line = n; call = k } ∷ numbered (n + 1) ks
 
 -- the canonical text of a book means that book
 abbrev pub ReadsBack : Type 0
-ReadsBack = (ts : List Term) (cs : List Claim) (ks : List Call) → AllByRecursion TermFits ts → AllByRecursion ClaimFits cs → AllByRecursion CallFits ks → meant (text_of (book_lines ts cs ks)) ≡ Ok (record { terms = ts; claims = cs; calls = numbered (2 + (length ts + length cs)) ks })
+ReadsBack = (ts : List Term) (cs : List Claim) (ks : List Call) → All TermFits ts → All ClaimFits cs → All CallFits ks → meant (text_of (book_lines ts cs ks)) ≡ Ok (record { terms = ts; claims = cs; calls = numbered (2 + (length ts + length cs)) ks })

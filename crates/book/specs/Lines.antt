@@ -1,5 +1,5 @@
 -- What the words of a line say. Assumes nothing.
-use Rattle.std.specs.Prelude.{ℕ, min, cond, List, [], ◌∷◌, length, Some, None, Ok, Err, Option, Result, nat_lt, slice_index}
+use Rattle.std.specs.Prelude.{ℕ, min, cond, List, [], ◌∷◌, length, Some, None, Ok, Err, Option, Result, nat_le, slice_index}
 use Rattle.book.specs.declared.contents.Call.{Call as Calling}
 use Rattle.book.specs.declared.contents.Call.TheVariants.{Assert as assert, TakeBack as take_back, Query as query, Write as write, Trial as trial, Close as close}
 use Rattle.book.specs.declared.fault.Wrong.{Wrong}
@@ -22,19 +22,20 @@ and_then (Err e) f = Err e
 
 -- ---- Numbers
 
+-- a number up to most
+abbrev pub number_to : ℕ → Word → Result ℕ Wrong
+number_to most (Number n) = cond (nat_le n most) (Ok n) (Err (TooLarge most))
+number_to most Huge = Err (TooLarge most)
+number_to most (Known n) = Err NoNumber
+number_to most Other = Err NoNumber
+
 -- a number of 16 bits
 abbrev pub short_of : Word → Result ℕ Wrong
-short_of (Number n) = cond (nat_lt n 65536) (Ok n) (Err (TooLarge 65535))
-short_of Huge = Err (TooLarge 65535)
-short_of (Known n) = Err NoNumber
-short_of Other = Err NoNumber
+short_of w = number_to 65535 w
 
 -- a number of 64 bits
 abbrev pub long_of : Word → Result ℕ Wrong
-long_of (Number n) = Ok n
-long_of Huge = Err (TooLarge 18446744073709551615)
-long_of (Known n) = Err NoNumber
-long_of Other = Err NoNumber
+long_of w = number_to 18446744073709551615 w
 
 -- any number of 16-bit numbers
 unfoldable pub shorts_of : List Word → Result (List ℕ) Wrong

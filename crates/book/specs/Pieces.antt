@@ -1,31 +1,21 @@
--- How a text is cut at its marks. Assumes nothing.
-use Rattle.std.specs.Prelude.{ℕ, Bool, true, false, cond, ◌||◌, List, [], ◌∷◌, ◌==◌}
-use Rattle.book.specs.declared.scan.Mark.{Mark}
-use Rattle.book.specs.declared.scan.Mark.TheVariants.{Newline, Hash, Blank}
+-- How a text is cut. Assumes nothing.
+use Rattle.std.specs.Prelude.{ℕ, Bool, cond, ◌||◌, List, [], ◌∷◌, ◌==◌}
+use Rattle.std.specs.List.{onto_first}
 
--- a line feed; a number sign; a space, a tab or a carriage return
-abbrev pub is_mark : Mark → ℕ → Bool
-is_mark Newline b = b == 10
-is_mark Hash b = b == 35
-is_mark Blank b = b == 32 || (b == 9 || b == 13)
+-- a line feed, which ends a line
+abbrev pub newline : ℕ → Bool
+newline b = b == 10
 
--- the bytes before the first mark
-unfoldable pub before : Mark → List ℕ → List ℕ
-before m [] = []
-before m (b ∷ bs) = cond (is_mark m b) [] (b ∷ before m bs)
+-- a number sign, which begins a comment
+abbrev pub hash : ℕ → Bool
+hash b = b == 35
 
--- the bytes after it
-unfoldable pub after : Mark → List ℕ → List ℕ
-after m [] = []
-after m (b ∷ bs) = cond (is_mark m b) bs (after m bs)
+-- a space, a tab or a carriage return, which stand between words
+abbrev pub blank : ℕ → Bool
+blank b = b == 32 || (b == 9 || b == 13)
 
--- a byte in front of pieces: a mark begins a new piece, any other byte is part of the first
-abbrev pub joins : Bool → ℕ → List (List ℕ) → List (List ℕ)
-joins true b ps = [] ∷ ps
-joins false b [] = (b ∷ []) ∷ []
-joins false b (p ∷ ps) = (b ∷ p) ∷ ps
-
--- the pieces that each end at a mark, or at the end of the text
-unfoldable pub pieces : Mark → List ℕ → List (List ℕ)
-pieces m [] = []
-pieces m (b ∷ bs) = joins (is_mark m b) b (pieces m bs)
+-- the lines of a text, which each end at a line feed, or at the end of the text: what `slice_split` gives, but for an
+-- empty line at the end
+unfoldable pub lines : List ℕ → List (List ℕ)
+lines [] = []
+lines (b ∷ bs) = cond (newline b) ([] ∷ lines bs) (onto_first b (lines bs))

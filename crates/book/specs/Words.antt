@@ -1,14 +1,15 @@
 -- The words of a line. Assumes nothing.
-use Rattle.std.specs.Prelude.{ℕ, ◌+◌, ◌-◌, ◌*◌, ◌^◌, Bool, true, cond, ◌&&◌, List, [], ◌∷◌, map, Some, None, codes, Option, nat_le, nat_lt}
+use Rattle.std.specs.Prelude.{ℕ, ◌+◌, ◌-◌, ◌*◌, ◌^◌, Bool, not, cond, ◌==◌, List, [], ◌∷◌, map, filter, length, Some, None, codes, Option, nat_lt}
+use Rattle.std.specs.Char.{is_ascii_digit}
+use Rattle.std.specs.List.{fold, find, list_all, slice_split, before_first}
 use Rattle.std.specs.Str.{bytes_eq}
-use Rattle.book.specs.declared.scan.Mark.TheVariants.{Hash, Blank}
 use Rattle.book.specs.declared.word.Name.{Name}
 use Rattle.book.specs.declared.word.Name.TheVariants.{Kind as kind, Ask as ask, Equality}
 use Rattle.book.specs.declared.word.Kind.TheVariants.{Theory, Term, Claim, Call}
 use Rattle.book.specs.declared.word.Ask.TheVariants.{Assert, TakeBack, Query, Write, Trial, Close}
 use Rattle.book.specs.declared.word.Word.{Word}
 use Rattle.book.specs.declared.word.Word.TheVariants.{Known, Number, Huge, Other}
-use Rattle.book.specs.Pieces.{before, pieces}
+use Rattle.book.specs.Pieces.{hash, blank}
 
 -- how a name is written
 abbrev pub spelling : Name → List ℕ
@@ -31,25 +32,19 @@ names =
 
 -- the first of some names that a word spells
 unfoldable pub first_spelled : List Name → List ℕ → Option Name
-first_spelled [] w = None
-first_spelled (n ∷ ns) w = cond (bytes_eq w (spelling n)) (Some n) (first_spelled ns w)
+first_spelled ns w = find (λ n. bytes_eq w (spelling n)) ns
 
 -- the name that a word spells
 abbrev pub name_of : List ℕ → Option Name
 name_of w = first_spelled names w
 
 -- the digits 0 to 9
-abbrev pub digit : ℕ → Bool
-digit b = nat_le 48 b && nat_le b 57
-
-unfoldable pub digits : List ℕ → Bool
-digits [] = true
-digits (b ∷ bs) = digit b && digits bs
+abbrev pub digits : List ℕ → Bool
+digits w = list_all is_ascii_digit w
 
 -- the number that digits write in base ten, after digits that write n
 unfoldable pub value_after : ℕ → List ℕ → ℕ
-value_after n [] = n
-value_after n (b ∷ bs) = value_after (n * 10 + (b - 48)) bs
+value_after n w = fold (λ m b. m * 10 + (b - 48)) n w
 
 -- a number, if 64 bits can hold it
 abbrev pub held : ℕ → Option ℕ
@@ -70,16 +65,13 @@ name_or None w = w
 abbrev pub word_of : List ℕ → Word
 word_of w = name_or (name_of w) (number_of w)
 
--- the pieces that are not empty
-abbrev pub filled : List (List ℕ) → List (List ℕ)
-filled [] = []
-filled ([] ∷ ps) = filled ps
-filled ((b ∷ bs) ∷ ps) = (b ∷ bs) ∷ filled ps
+abbrev pub filled : List ℕ → Bool
+filled w = not (length w == 0)
 
--- the words among bytes
+-- the words among bytes, with blanks between them
 unfoldable pub words_among : List ℕ → List Word
-words_among bytes = map word_of (filled (pieces Blank bytes))
+words_among bytes = map word_of (filter filled (slice_split blank bytes))
 
 -- the words of a line, which stand before its comment
 abbrev pub words_of : List ℕ → List Word
-words_of line = words_among (before Hash line)
+words_of line = words_among (before_first hash line)

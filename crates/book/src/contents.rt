@@ -4,7 +4,7 @@ use std::fmt;
 use theory::{Literal, Term};
 
 /// A call on a theory. A query or a write may name the length of the place that it is lent.
-#[derive(Clone, Copy)]
+#[derive(Clone, Copy, PartialEq, Eq, Debug)]
 pub enum Call {
     Assert(Literal),
     TakeBack(usize),
@@ -30,7 +30,7 @@ impl fmt::Display for Call {
 }
 
 /// A call, and the line where it stands; lines are counted from 1.
-#[derive(Clone, Copy)]
+#[derive(Clone, Copy, PartialEq, Eq, Debug)]
 pub struct Asked {
     pub line: usize,
     pub call: Call,

@@ -7,7 +7,7 @@ use std::alloc::AllocError;
 use std::fmt;
 
 /// What is wrong with a line.
-#[derive(Clone, Copy)]
+#[derive(Clone, Copy, PartialEq, Eq, Debug)]
 pub enum Wrong {
     NoSuchLine,
     NoSuchTheory,
@@ -53,17 +53,34 @@ impl fmt::Display for Wrong {
 }
 
 /// What is wrong, and the line where; lines are counted from 1.
-#[derive(Clone, Copy)]
+#[derive(Clone, Copy, PartialEq, Eq, Debug)]
 pub struct Fault {
     pub line: usize,
     pub wrong: Wrong,
 }
 
+impl fmt::Display for Fault {
+    fn fmt<W: fmt::Write>(&self, f: &mut fmt::Formatter<W>) -> fmt::Result {
+        let line = self.line;
+        let wrong = self.wrong;
+        write!(f, "{line}: {wrong}")
+    }
+}
+
 /// Why a book was not read.
-#[derive(Clone, Copy)]
+#[derive(Clone, Copy, PartialEq, Eq, Debug)]
 pub enum Unread {
     Fault(Fault),
     NoMemory,
+}
+
+impl fmt::Display for Unread {
+    fn fmt<W: fmt::Write>(&self, f: &mut fmt::Formatter<W>) -> fmt::Result {
+        match *self {
+            Unread::Fault(fault) => write!(f, "{fault}"),
+            Unread::NoMemory => write!(f, "no memory is left"),
+        }
+    }
 }
 
 impl From<Fault> for Unread {

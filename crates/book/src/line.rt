@@ -1,6 +1,6 @@
 //! What a line says.
 ghost use Rattle.std.specs.Prelude.{◌≡◌, Ok};
-ghost use Rattle.book.specs.Lines.{and_then, short_of, long_of, shorts_of, first_two, only_of, place_of, theory_of, term_of, claim_of, called_by, call_of, line_by, said_by};
+ghost use Rattle.book.specs.Lines.{and_then, number_to, short_of, long_of, shorts_of, first_two, only_of, place_of, theory_of, term_of, claim_of, called_by, call_of, line_by, said_by};
 
 use crate::contents::Call;
 use crate::fault::Wrong;
@@ -9,7 +9,7 @@ use congruence::Claim;
 use theory::Term;
 
 /// What one line says.
-#[derive(Clone, Copy)]
+#[derive(Clone, Copy, PartialEq, Eq, Debug)]
 pub enum Said {
     Nothing,
     Theory,
@@ -18,32 +18,30 @@ pub enum Said {
     Call(Call),
 }
 
+/// A number up to `most`.
+fn number(word: Word, most: usize) -> Result<usize, Wrong>
+    ensures { result ≡ number_to most word }
+{
+    match word {
+        Word::Number(n) if n <= most => Ok(n),
+        Word::Number(_) | Word::Huge => Err(Wrong::TooLarge { most }),
+        Word::Known(_) | Word::Other => Err(Wrong::NoNumber),
+    }
+}
+
 /// A number of 16 bits.
 fn short(word: Word) -> Result<u16, Wrong>
     ensures { result ≡ short_of word }
 {
-    match word {
-        Word::Number(n) => {
-            if n < 65536 {
-                Ok(n as u16)
-            } else {
-                Err(Wrong::TooLarge { most: 65535 })
-            }
-        }
-        Word::Huge => Err(Wrong::TooLarge { most: 65535 }),
-        _ => Err(Wrong::NoNumber),
-    }
+    let n = number(word, usize::from(u16::MAX))?;
+    Ok(n as u16)
 }
 
 /// A number of 64 bits.
 fn long(word: Word) -> Result<usize, Wrong>
     ensures { result ≡ long_of word }
 {
-    match word {
-        Word::Number(n) => Ok(n),
-        Word::Huge => Err(Wrong::TooLarge { most: usize::MAX }),
-        _ => Err(Wrong::NoNumber),
-    }
+    number(word, usize::MAX)
 }
 
 /// The one word after a name.
@@ -76,6 +74,7 @@ fn theory(words: &[Word]) -> Result<Said, Wrong>
     }
 }
 
+#[tactic(auto, unfolding(crate::specs::Lines::shorts_of))]
 fn all_short(words: &[Word]) -> Result<(), Wrong>
     ensures { result ≡ and_then (shorts_of words.now) (λ _. Ok (tt {0})) }
 {
@@ -86,6 +85,7 @@ fn all_short(words: &[Word]) -> Result<(), Wrong>
 }
 
 /// The first two of some numbers of 16 bits.
+#[tactic(auto, unfolding(crate::specs::Lines::shorts_of))]
 fn arguments(words: &[Word]) -> Result<[u16; 2], Wrong>
     ensures { result ≡ and_then (shorts_of words.now) (λ ns. Ok (first_two ns)) }
 {
@@ -100,6 +100,7 @@ fn arguments(words: &[Word]) -> Result<[u16; 2], Wrong>
     }
 }
 
+#[tactic(auto, unfolding(crate::specs::Lines::shorts_of))]
 fn term(words: &[Word]) -> Result<Said, Wrong>
     ensures { result ≡ term_of words.now }
 {
@@ -156,13 +157,11 @@ fn called(ask: Ask, words: &[Word]) -> Result<Call, Wrong>
 fn call(words: &[Word]) -> Result<Said, Wrong>
     ensures { result ≡ call_of words.now }
 {
-    let Some((first, rest)) = words.split_first() else {
-        return Err(Wrong::Missing {
+    match words {
+        [] => Err(Wrong::Missing {
             after: Name::Kind(Kind::Call),
-        });
-    };
-    match *first {
-        Word::Known(Name::Ask(ask)) => Ok(Said::Call(called(ask, rest)?)),
+        }),
+        [Word::Known(Name::Ask(ask)), rest @ ..] => Ok(Said::Call(called(*ask, rest)?)),
         _ => Err(Wrong::NoSuchCall),
     }
 }
@@ -182,11 +181,9 @@ fn named(kind: Kind, words: &[Word]) -> Result<Said, Wrong>
 pub fn meaning(words: &[Word]) -> Result<Said, Wrong>
     ensures { result ≡ said_by words.now }
 {
-    let Some((first, rest)) = words.split_first() else {
-        return Ok(Said::Nothing);
-    };
-    match *first {
-        Word::Known(Name::Kind(kind)) => named(kind, rest),
+    match words {
+        [] => Ok(Said::Nothing),
+        [Word::Known(Name::Kind(kind)), rest @ ..] => named(*kind, rest),
         _ => Err(Wrong::NoSuchLine),
     }
 }

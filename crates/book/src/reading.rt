@@ -1,16 +1,16 @@
 //! Reading a book line by line.
 ghost use Rattle.std.specs.Prelude.{◌≡◌, OnOk};
-ghost use Rattle.book.specs.Books.{contents_of, none, adds, stage_after, at_line, turn, meant, Tells};
+ghost use Rattle.book.specs.Books.{contents_of, none, adds, stage_after, turn, meant, Tells};
 
 use crate::contents::{Asked, Book};
 use crate::fault::{Fault, Unread, Wrong};
 use crate::line::{Said, meaning};
-use crate::scan::{Mark, after, before};
+use crate::scan::Lines;
 use crate::word::words;
 use std::alloc::{AllocError, Global};
 
 /// Which lines may come: at the start the theory alone, and then terms, claims and calls in this order.
-#[derive(Clone, Copy)]
+#[derive(Clone, Copy, PartialEq, Eq, Debug)]
 pub enum Stage {
     Start,
     Terms,
@@ -45,15 +45,6 @@ fn next(stage: Stage, said: Said) -> Result<Stage, Wrong>
     }
 }
 
-fn at<T: Drop>(line: usize, found: Result<T, Wrong>) -> Result<T, Fault>
-    ensures { result ≡ at_line line found }
-{
-    match found {
-        Ok(x) => Ok(x),
-        Err(wrong) => Err(Fault { line, wrong }),
-    }
-}
-
 fn put(book: &mut Book, line: usize, said: Said) -> Result<(), AllocError>
     ensures { OnOk result (contents_of book.new ≡ adds line (contents_of book.old) said) }
 {
@@ -66,6 +57,7 @@ fn put(book: &mut Book, line: usize, said: Said) -> Result<(), AllocError>
     Ok(())
 }
 
+#[tactic(auto, unfolding(crate::specs::Books::turn))]
 fn read_line(
     heap: Global,
     book: &mut Book,
@@ -76,8 +68,9 @@ fn read_line(
     ensures { Tells result (λ s. (s, contents_of book.new)) (turn line stage (contents_of book.old) bytes.now) }
 {
     let words = words(heap, bytes)?;
-    let said = at(line, meaning(&words))?;
-    let stage = at(line, next(stage, said))?;
+    let at_line = |wrong| Fault { line, wrong };
+    let said = meaning(&words).map_err(at_line)?;
+    let stage = next(stage, said).map_err(at_line)?;
     put(book, line, said)?;
     Ok(stage)
 }
@@ -88,16 +81,12 @@ pub fn read(heap: Global, text: &[u8]) -> Result<Book, Unread>
 {
     let mut book = blank(heap);
     let mut stage = Stage::Start;
-    let mut line = 0usize;
-    let mut rest = text;
-    while !rest.is_empty() {
-        line += 1;
-        stage = read_line(heap, &mut book, stage, line, before(Mark::Newline, rest))?;
-        rest = after(Mark::Newline, rest);
+    for (i, bytes) in Lines(text).enumerate() {
+        stage = read_line(heap, &mut book, stage, i + 1, bytes)?;
     }
     match stage {
         Stage::Start => Err(Unread::Fault(Fault {
-            line: line.max(1),
+            line: Lines(text).count().max(1),
             wrong: Wrong::NoTheory,
         })),
         _ => Ok(book),

@@ -1,13 +1,14 @@
 //! The words of a line.
 ghost use Rattle.std.specs.Prelude.{◌≡◌, IfOk};
-ghost use Rattle.book.specs.Words.{spelling, first_spelled, name_of, digit, digits, value_after, held, number_of, word_of, words_of};
+ghost use Rattle.std.specs.Str.{bytes_eq};
+ghost use Rattle.book.specs.Words.{spelling, first_spelled, name_of, digits, value_after, held, number_of, word_of, words_of};
 
-use crate::scan::{Mark, after, before};
+use crate::scan::{before_comment, is_blank};
 use std::alloc::{AllocError, Global};
 use std::fmt;
 
 /// The first word of a line.
-#[derive(Clone, Copy)]
+#[derive(Clone, Copy, PartialEq, Eq, Debug)]
 pub enum Kind {
     Theory,
     Term,
@@ -16,7 +17,7 @@ pub enum Kind {
 }
 
 /// The name of a call.
-#[derive(Clone, Copy)]
+#[derive(Clone, Copy, PartialEq, Eq, Debug)]
 pub enum Ask {
     Assert,
     TakeBack,
@@ -27,7 +28,7 @@ pub enum Ask {
 }
 
 /// A word that a book knows.
-#[derive(Clone, Copy)]
+#[derive(Clone, Copy, PartialEq, Eq, Debug)]
 pub enum Name {
     Kind(Kind),
     Ask(Ask),
@@ -77,7 +78,7 @@ const NAMES: [Name; 11] = [
 ];
 
 /// What a word is; a number that no field can hold is `Huge`.
-#[derive(Clone, Copy)]
+#[derive(Clone, Copy, PartialEq, Eq, Debug)]
 pub enum Word {
     Known(Name),
     Number(usize),
@@ -85,16 +86,18 @@ pub enum Word {
     Other,
 }
 
+fn spells(name: Name, word: &[u8]) -> bool
+    ensures { result ≡ bytes_eq word.now (spelling name) }
+{
+    word == name.text().as_bytes()
+}
+
 /// The first of some names that a word spells.
+#[tactic(auto, unfolding(crate::specs::Words::first_spelled))]
 fn spelled(names: &[Name], word: &[u8]) -> Option<Name>
     ensures { result ≡ first_spelled names.now word.now }
 {
-    for name in names {
-        if word == name.text().as_bytes() {
-            return Some(*name);
-        }
-    }
-    None
+    names.iter().copied().find(|name| spells(*name, word))
 }
 
 fn known(word: &[u8]) -> Option<Name>
@@ -103,33 +106,21 @@ fn known(word: &[u8]) -> Option<Name>
     spelled(&NAMES, word)
 }
 
-fn is_digit(b: u8) -> bool
-    ensures { result ≡ digit b }
-{
-    b >= b'0' && b <= b'9'
-}
-
 fn all_digits(word: &[u8]) -> bool
     ensures { result ≡ digits word.now }
 {
-    for b in word {
-        if !is_digit(*b) {
-            return false;
-        }
-    }
-    true
+    word.iter().all(u8::is_ascii_digit)
 }
 
 /// The number that digits write, if a `usize` can hold it.
+#[tactic(auto, using(crate::proofs::Numbers::value_ge), unfolding(crate::specs::Words::value_after))]
 fn value(word: &[u8]) -> Option<usize>
     ensures { result ≡ held (value_after 0 word.now) }
 {
-    let mut n = 0usize;
-    for b in word {
-        let tens = n.checked_mul(10)?;
-        n = tens.checked_add(usize::from(b.saturating_sub(b'0')))?;
-    }
-    Some(n)
+    word.iter().try_fold(0usize, |n, b| {
+        n.checked_mul(10)?
+            .checked_add(usize::from(b.saturating_sub(b'0')))
+    })
 }
 
 fn number(word: &[u8]) -> Word
@@ -138,10 +129,7 @@ fn number(word: &[u8]) -> Word
     if !all_digits(word) {
         return Word::Other;
     }
-    match value(word) {
-        Some(n) => Word::Number(n),
-        None => Word::Huge,
-    }
+    value(word).map_or(Word::Huge, Word::Number)
 }
 
 fn word_of(word: &[u8]) -> Word
@@ -157,14 +145,9 @@ fn word_of(word: &[u8]) -> Word
 pub fn words(heap: Global, line: &[u8]) -> Result<Vec<Word>, AllocError>
     ensures { IfOk result (λ v. v.items ≡ words_of line.now) }
 {
-    let mut found = Vec::new(heap);
-    let mut rest = before(Mark::Hash, line);
-    while !rest.is_empty() {
-        let piece = before(Mark::Blank, rest);
-        if !piece.is_empty() {
-            found.push(word_of(piece))?;
-        }
-        rest = after(Mark::Blank, rest);
-    }
-    Ok(found)
+    before_comment(line)
+        .split(|b| is_blank(*b))
+        .filter(|word| !word.is_empty())
+        .map(word_of)
+        .collect(heap)
 }

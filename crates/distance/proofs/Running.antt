@@ -3,7 +3,8 @@ use Rattle.std.proofs.Common.{◌≡◌, ℕ, ◌+◌, ◌-◌, ◌<◌, ◌≤�
 use Rattle.std.proofs.lemmas.Int.{ints}
 use Rattle.std.proofs.lemmas.List.{length-append}
 use Rattle.difference.specs.declared.bound.Bound.{Bound}
-use Rattle.difference.specs.Bounds.{at, num, Named}
+use Rattle.theory.specs.Meaning.{num}
+use Rattle.difference.specs.Bounds.{at, Named}
 use Rattle.difference.specs.Settling.{limit, excess, worst, outcome, fits}
 use Rattle.difference.proofs.Worst.{bounds, worst_is}
 use Rattle.difference.proofs.Outcome.{Start, Going, was_old, going_on, base_apart}
@@ -42,7 +43,7 @@ module _ (bs : List Bound) (u : ℕ) (old : List ℤ) (some : 0 < length bs) (na
     same = was_old (length old) bs u old start row steps g.gap g.goes p (worst row bs).1 within far_is broken (bounds row 0 (0, pos 0) bs) free
 
     pub run_on : Running bs u old (set row (at bs p).term (limit row (at bs p))) (steps ++ p ∷ [])
-        (filter (breaks row bs) qs ++ broken_on (set row (at bs p).term (limit row (at bs p))) bs (at bs p).term (length bs))
+        (filter (breaks row bs) qs ++ broken_on (set row (at bs p).term (limit row (at bs p))) bs (at bs p).term)
     run_on = record {
       gap = (worst row bs).1;
       goes = going_on (length old) bs u old start row steps g.gap g.goes p (worst row bs).1 within far_is broken (bounds row 0 (0, pos 0) bs) free;
@@ -51,7 +52,7 @@ module _ (bs : List Bound) (u : ℕ) (old : List ℤ) (some : 0 < length bs) (na
     }
 
     -- there is room for it
-    pub run_room : length (filter (breaks row bs) qs) + length (broken_on (set row (at bs p).term (limit row (at bs p))) bs (at bs p).term (length bs)) ≤ length bs
+    pub run_room : length (filter (breaks row bs) qs) + length (broken_on (set row (at bs p).term (limit row (at bs p))) bs (at bs p).term) ≤ length bs
     run_room =
-        let new : List ℕ = broken_on (set row (at bs p).term (limit row (at bs p))) bs (at bs p).term (length bs) in
+        let new : List ℕ = broken_on (set row (at bs p).term (limit row (at bs p))) bs (at bs p).term in
         omega (arith, waiting_few run_on.waiting, length-append (filter (breaks row bs) qs) new)

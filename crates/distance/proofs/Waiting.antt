@@ -1,23 +1,26 @@
 -- A queue that has each bound that a row breaks, none twice, as a term is lowered. Assumes nothing.
-use Rattle.std.proofs.Common.{◌≡◌, ℕ, zero, suc, ◌+◌, ◌-◌, ◌<◌, ◌≤◌, Bool, true, false, cond, not, ◌&&◌, ◌||◌, eqb, List, [], ◌∷◌, ◌++◌, length, set, ℤ, pos, ◌≤ℤ◌, ◌<ℤ◌, filter, sym, refl, ap, ◌∙◌, ⊎_elim, arith}
+use Rattle.std.proofs.Common.{◌≡◌, ℕ, zero, suc, ◌+◌, ◌-◌, ◌<◌, ◌≤◌, Bool, true, false, cond, not, ◌||◌, eqb, List, [], ◌∷◌, ◌++◌, length, set, ℤ, pos, ◌≤ℤ◌, ◌<ℤ◌, filter, sym, refl, ap, ◌∙◌, ⊎_elim, arith}
 use lib.Signed.{lt_z}
 use Rattle.std.specs.List.{AllByRecursion}
 use Rattle.std.proofs.lemmas.Int.{ints}
 use Rattle.std.proofs.ByRecursion.{All-append, all_kept_by}
-use Rattle.std.proofs.lemmas.Bool.{cases_Bool, cases_eq, and_from, and_parts, or_cases, or_from, or_left, or_right, or_parts, eq-eqb, eqb-true, eqb-false, not-true, both_ways}
+use Rattle.std.proofs.lemmas.Bool.{cases_Bool, cases_eq, or_cases, or_from, or_left, or_right, or_parts, eq-eqb, eqb-true, eqb-false, not-true, both_ways}
 use Rattle.theory.specs.Literals.{has}
 use Rattle.theory.specs.Positions.{put}
 use Rattle.difference.specs.declared.bound.Bound.{Bound}
-use Rattle.difference.specs.Bounds.{at, num, Distinct}
+use Rattle.theory.specs.Meaning.{num}
+use Rattle.difference.specs.Bounds.{at, Distinct}
 use Rattle.difference.specs.Settling.{excess}
-use Rattle.difference.proofs.Cycle.{has_all}
+use Rattle.difference.proofs.Cycle.{all_has, has_all}
 use Rattle.difference.proofs.Settling.{moved}
+use Rattle.distance.specs.Index.{based}
 use Rattle.distance.specs.Queue.{breaks, Covers, broken_on}
+use Rattle.distance.proofs.Indexing.{based_all}
 use Rattle.distance.proofs.Marking.{or_assoc}
 
 -- ---- lists of numbers, none twice
 
-has_append : (xs ys : List ℕ) (q : ℕ) → has (xs ++ ys) q ≡ (has xs q || has ys q)
+pub has_append : (xs ys : List ℕ) (q : ℕ) → has (xs ++ ys) q ≡ (has xs q || has ys q)
 has_append [] ys q = refl
 has_append (x ∷ xs) ys q = ap (λ b. eqb x q || b) (has_append xs ys q) ∙ or_assoc (eqb x q) (has xs q) (has ys q)
 
@@ -96,43 +99,43 @@ few zero [] a d = omega arith
 few zero (x ∷ xs) a d = absurd (omega (arith, a.0))
 few (suc n) xs a d = omega (arith, few n (filter (other n) xs) (others_below n xs a) (kept_distinct (other n) xs d), one_lost n xs d)
 
--- ---- the broken bounds with one base
+-- ---- the bounds with one base
+
+module _ (bs : List Bound) (x : ℕ) where
+  based_has : (k q : ℕ) → q < k → (at bs q).base ≡ x → has (based bs x k) q ≡ true
+  unfolding based
+  based_has zero q l e = absurd (omega arith)
+  based_has (suc k) q l e = go (λ h. based_has k q h e) (eqb (at bs k).base x) refl
+    where
+      go : (q < k → has (based bs x k) q ≡ true) → (c : Bool) → eqb (at bs k).base x ≡ c → has (put c k (based bs x k)) q ≡ true
+      go again true t =
+          ⊎_elim (λ h. or_left (eqb k q) (has (based bs x k) q) (eq-eqb k q (sym h))) (λ ne. or_right (eqb k q) (has (based bs x k) q) (again (omega (arith, l, ne)))) (cases_eq q k)
+      go again false t =
+          ⊎_elim (λ h. absurd (both_ways (eqb (at bs k).base x) t (eq-eqb (at bs k).base x (ap (λ n. (at bs n).base) (sym h) ∙ e)))) (λ ne. again (omega (arith, l, ne))) (cases_eq q k)
+
+  pub based_only : (k q : ℕ) → has (based bs x k) q ≡ true → (q < k) × ((at bs q).base ≡ x)
+  based_only k q h = all_has (λ q. (q < k) × ((at bs q).base ≡ x)) (based bs x k) (based_all bs x k) q h
+
+  based_distinct : (k : ℕ) → Distinct (based bs x k)
+  unfolding based
+  based_distinct zero = tt
+  based_distinct (suc k) = go (based_distinct k) (eqb (at bs k).base x)
+    where
+      go : Distinct (based bs x k) → (c : Bool) → Distinct (put c k (based bs x k))
+      go again true = (lacks (based bs x k) k (λ h. let r = based_only k k h in omega (arith, r.0)), again)
+      go again false = again
+
+-- ---- those that a row breaks
 
 module _ (row : List ℤ) (bs : List Bound) (x : ℕ) where
-  broken_has : (k q : ℕ) → q < k → (at bs q).base ≡ x → breaks row bs q ≡ true → has (broken_on row bs x k) q ≡ true
-  unfolding broken_on
-  broken_has zero q l e t = absurd (omega arith)
-  broken_has (suc k) q l e t = go (λ h. broken_has k q h e t) (eqb (at bs k).base x && breaks row bs k) refl
-    where
-      go : (q < k → has (broken_on row bs x k) q ≡ true) → (c : Bool) → (eqb (at bs k).base x && breaks row bs k) ≡ c → has (put c k (broken_on row bs x k)) q ≡ true
-      go again true e' =
-          ⊎_elim (λ h. or_left (eqb k q) (has (broken_on row bs x k) q) (eq-eqb k q (sym h))) (λ ne. or_right (eqb k q) (has (broken_on row bs x k) q) (again (omega (arith, l, ne)))) (cases_eq q k)
-      go again false e' =
-          ⊎_elim
-          (λ h. absurd (both_ways (eqb (at bs k).base x && breaks row bs k) e' (and_from (eqb (at bs k).base x) (breaks row bs k) (eq-eqb (at bs k).base x (ap (λ n. (at bs n).base) (sym h) ∙ e)) (ap (breaks row bs) (sym h) ∙ t))))
-          (λ ne. again (omega (arith, l, ne))) (cases_eq q k)
+  broken_has : (q : ℕ) → q < length bs → (at bs q).base ≡ x → breaks row bs q ≡ true → has (broken_on row bs x) q ≡ true
+  broken_has q l e t = kept_has (breaks row bs) (based bs x (length bs)) q t (based_has bs x (length bs) q l e)
 
-  broken_only : (k q : ℕ) → has (broken_on row bs x k) q ≡ true → (q < k) × ((at bs q).base ≡ x)
-  unfolding broken_on
-  broken_only zero q h = absurd (both_ways false refl h)
-  broken_only (suc k) q h = go (λ j. let r = broken_only k q j in (omega (arith, r.0), r.1)) (eqb (at bs k).base x && breaks row bs k) refl h
-    where
-      go : (has (broken_on row bs x k) q ≡ true → (q < suc k) × ((at bs q).base ≡ x)) → (c : Bool) → (eqb (at bs k).base x && breaks row bs k) ≡ c → has (put c k (broken_on row bs x k)) q ≡ true → (q < suc k) × ((at bs q).base ≡ x)
-      go again true e j =
-          ⊎_elim
-          (λ t. let s : k ≡ q = eqb-true k q t in
-          (omega (arith, s), ap (λ n. (at bs n).base) (sym s) ∙ eqb-true (at bs k).base x (and_parts (eqb (at bs k).base x) (breaks row bs k) e).0))
-          again (or_cases (eqb k q) (has (broken_on row bs x k) q) j)
-      go again false e j = again j
+  broken_only : (q : ℕ) → has (broken_on row bs x) q ≡ true → (q < length bs) × ((at bs q).base ≡ x)
+  broken_only q h = based_only bs x (length bs) q (has_kept (breaks row bs) (based bs x (length bs)) q h).0
 
-  broken_distinct : (k : ℕ) → Distinct (broken_on row bs x k)
-  unfolding broken_on
-  broken_distinct zero = tt
-  broken_distinct (suc k) = go (broken_distinct k) (eqb (at bs k).base x && breaks row bs k)
-    where
-      go : Distinct (broken_on row bs x k) → (c : Bool) → Distinct (put c k (broken_on row bs x k))
-      go again true = (lacks (broken_on row bs x k) k (λ h. let r = broken_only k k h in omega (arith, r.0)), again)
-      go again false = again
+  broken_distinct : Distinct (broken_on row bs x)
+  broken_distinct = kept_distinct (breaks row bs) (based bs x (length bs)) (based_distinct bs x (length bs))
 
 -- ---- the queue
 
@@ -159,19 +162,19 @@ waiting_last row bs some kept = record {
 -- a term is lowered that is no broken bound's base: of the queue the broken ones stay, and the broken ones with that base come
 pub waiting_on : (row : List ℤ) (bs : List Bound) (qs : List ℕ) (x : ℕ) (v : ℤ) → Waiting row bs qs → x < length row → v ≤ℤ num row x
     → ((q : ℕ) → q < length bs → pos 0 <ℤ excess row (at bs q) → (at bs q).base ≡ x → ⊥)
-    → Waiting (set row x v) bs (filter (breaks row bs) qs ++ broken_on (set row x v) bs x (length bs))
+    → Waiting (set row x v) bs (filter (breaks row bs) qs ++ broken_on (set row x v) bs x)
 waiting_on row bs qs x v w within lower free =
     let kept : List ℕ = filter (breaks row bs) qs in
-    let new : List ℕ = broken_on (set row x v) bs x (length bs) in
+    let new : List ℕ = broken_on (set row x v) bs x in
     record {
       covers = λ q l t. has_append kept new q ∙ ⊎_elim
-          (λ e. or_right (has kept q) (has new q) (broken_has (set row x v) bs x (length bs) q l e t))
+          (λ e. or_right (has kept q) (has new q) (broken_has (set row x v) bs x q l e t))
           (λ ne. let b : breaks row bs q ≡ true = still q t ne in or_left (has kept q) (has new q) (kept_has (breaks row bs) qs q b (w.covers q l b)))
           (cases_eq (at bs q).base x);
       positions = All-append (λ q. q < length bs) kept new (all_kept_by (breaks row bs) (λ q. q < length bs) qs w.positions)
-          (has_all (λ q. q < length bs) new (λ q h. (broken_only (set row x v) bs x (length bs) q h).0));
-      distinct = distinct_append kept new (kept_distinct (breaks row bs) qs w.distinct) (broken_distinct (set row x v) bs x (length bs))
-          (λ q a b. let r = broken_only (set row x v) bs x (length bs) q b in
+          (has_all (λ q. q < length bs) new (λ q h. (broken_only (set row x v) bs x q h).0));
+      distinct = distinct_append kept new (kept_distinct (breaks row bs) qs w.distinct) (broken_distinct (set row x v) bs x)
+          (λ q a b. let r = broken_only (set row x v) bs x q b in
           let t : lt_z (pos 0) (excess row (at bs q)) ≡ true = (has_kept (breaks row bs) qs q a).1 in
           free q r.0 (grind (arith, ints)) r.1);
     }

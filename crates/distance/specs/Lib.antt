@@ -1,5 +1,7 @@
-pub mod Rows
 pub mod Index
+pub mod Links
 pub mod Queue
+pub mod Rows
+pub mod Table
 pub mod Checks
 pub mod Made

@@ -7,10 +7,11 @@ use Rattle.difference.specs.declared.bound.Bound.{Bound}
 use Rattle.difference.specs.Distance.{Standing}
 use Rattle.distance.specs.declared.state.Distance.{Distance}
 use Rattle.distance.specs.Checks.{Sound, Barred}
+use Rattle.distance.specs.Table.{terms_of}
 
 -- a theory of just these terms and claims, with nothing asserted, of which all that is proved of distances stands
 pub record New (ts : List Term) (claims : List Bound) (d : Distance) : Type 0 where
-  pub terms_are : d.table.terms ≡ length ts
+  pub terms_are : terms_of d.table ≡ length ts
   pub claims_are : d.claims.now ≡ claims
   pub nothing : vec_items d.list ≡ []
   pub stands : Standing (length ts) claims

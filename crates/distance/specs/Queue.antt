@@ -1,10 +1,10 @@
 -- The bounds that a row breaks, as positions in a queue. Assumes nothing.
-use Rattle.std.specs.Prelude.{◌≡◌, ℕ, zero, suc, ◌<◌, ◌≤◌, Bool, true, ◌&&◌, ◌⊎◌, List, [], length, ℤ, pos, ◌≤ℤ◌, ◌==◌, int_lt}
+use Rattle.std.specs.Prelude.{◌≡◌, ℕ, ◌<◌, ◌≤◌, Bool, true, ◌⊎◌, List, length, filter, ℤ, pos, ◌≤ℤ◌, ◌<ℤ◌, int_lt, Option, Some, None}
 use Rattle.theory.specs.Literals.{has}
-use Rattle.theory.specs.Positions.{put}
 use Rattle.difference.specs.declared.bound.Bound.{Bound}
 use Rattle.difference.specs.Bounds.{at}
-use Rattle.difference.specs.Settling.{excess}
+use Rattle.difference.specs.Settling.{excess, worst}
+use Rattle.distance.specs.Index.{based}
 
 -- whether a row breaks the bound at a position
 abbrev pub breaks : List ℤ → List Bound → ℕ → Bool
@@ -14,13 +14,20 @@ breaks row bs q = int_lt (pos 0) (excess row (at bs q))
 abbrev pub Covers : List ℤ → List Bound → List ℕ → Type 0
 Covers row bs qs = (q : ℕ) → q < length bs → breaks row bs q ≡ true → has qs q ≡ true
 
--- of the first k bounds, those with the base x that a row breaks, the latest first
-unfoldable pub broken_on : List ℤ → List Bound → ℕ → ℕ → List ℕ
-broken_on row bs x zero = []
-broken_on row bs x (suc k) = put ((at bs k).base == x && breaks row bs k) k (broken_on row bs x k)
+-- the bounds with the base x that a row breaks, the latest first
+abbrev pub broken_on : List ℤ → List Bound → ℕ → List ℕ
+broken_on row bs x = filter (breaks row bs) (based bs x (length bs))
 
--- of two bounds, each by its position and how far it is broken, the one that is broken more, or of two alike the earlier
-pub record Leading (a b r : ℕ × ℤ) : Type 0 where
-  pub one : (r ≡ a) ⊎ (r ≡ b)
-  pub most : (a.1 ≤ℤ r.1) × (b.1 ≤ℤ r.1)
-  pub first : (a.1 ≡ r.1 → r.0 ≤ a.0) × (b.1 ≡ r.1 → r.0 ≤ b.0)
+-- of the bound broken most so far, if any, and one that is broken, each by its position and how far, the one that is broken
+-- more, or of two alike the earlier
+pub record Leading (best : Option (ℕ × ℤ)) (b r : ℕ × ℤ) : Type 0 where
+  pub one : (r ≡ b) ⊎ (best ≡ Some r)
+  pub most : b.1 ≤ℤ r.1
+  pub first : b.1 ≡ r.1 → r.0 ≤ b.0
+  pub no_less : (a : ℕ × ℤ) → best ≡ Some a → a.1 ≤ℤ r.1
+  pub no_later : (a : ℕ × ℤ) → best ≡ Some a → a.1 ≡ r.1 → r.0 ≤ a.0
+
+-- what is picked: nothing if nothing is broken, and else the position of the bound broken most, the first of several
+abbrev pub Picked : List ℤ → List Bound → Option ℕ → Type 0
+Picked row bs None = (worst row bs).1 ≤ℤ pos 0
+Picked row bs (Some p) = (p ≡ (worst row bs).0) × (pos 0 <ℤ (worst row bs).1)

@@ -1,9 +1,9 @@
 //! Distances between terms, as a theory.
 #![tactic(auto)]
 
+pub(crate) mod based;
+pub(crate) mod bounds;
 pub(crate) mod check;
-pub(crate) mod excess;
-pub(crate) mod index;
 pub(crate) mod queue;
 pub(crate) mod settle;
 pub mod state;

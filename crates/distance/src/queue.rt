@@ -1,75 +1,64 @@
-//! A queue of the bounds that a row may break, by position.
-ghost use Rattle.std.specs.Prelude.{◌≡◌, ◌+◌, ◌<◌, ◌≤◌, ◌++◌, length, vec_capacity, filter};
+//! The queue of the bounds that the row may break, by position.
+ghost use Rattle.std.specs.Prelude.{◌≡◌, ◌+◌, ◌<◌, ◌≤◌, ◌++◌, length, vec_capacity, filter, pos, ◌<ℤ◌};
 ghost use Rattle.std.specs.List.{AllByRecursion};
-ghost use Rattle.difference.specs.Bounds.{Each, Named};
-ghost use Rattle.difference.specs.Settling.{worst};
-ghost use Rattle.difference.specs.Depth.{Small, Inside};
-ghost use Rattle.distance.specs.Index.{Indexed};
-ghost use Rattle.distance.specs.Queue.{breaks, Covers, broken_on, Leading};
+ghost use Rattle.difference.specs.Depth.{Inside};
+ghost use Rattle.distance.specs.Queue.{breaks, Covers, broken_on, Leading, Picked};
 
-use crate::excess::excess;
-use crate::index::Index;
-use difference::Bound;
+use crate::bounds::Bounds;
+use crate::settle::Work;
 
-/// Of two bounds, each by its position and how far it is broken, the one that is broken more, or of two alike the earlier.
-fn lead(p: usize, far: i64, q: usize, over: i64) -> (usize, i64)
-    ensures { Leading (p, far) (q, over) result }
+/// Of the bound broken most so far, if any, and one that is broken, each by its position and how far it is broken, the one
+/// that is broken more, or of two alike the earlier.
+fn lead(best: Option<(usize, i64)>, q: usize, over: i64) -> (usize, i64)
+    ensures { Leading best (q, over) result }
 {
-    if over > far || (over == far && q < p) {
-        return (q, over);
+    match best {
+        Some((p, far)) if far > over || far == over && p < q => (p, far),
+        _ => (q, over),
     }
-    (p, far)
 }
 
-/// The position of the bound that the row breaks most, the first of several, and how far it is broken; 0 and 0 if none is.
-/// The queue has each bound that is broken, and keeps just those.
-pub(crate) fn pick(bounds: &[Bound], row: &[i64], queue: &mut Vec<usize>) -> (usize, i64)
-    requires named { Named (length row.now) bounds.now }
-    requires small { Each Small bounds.now }
-    requires few { length bounds.now ≤ 128 }
-    requires inside { Inside 40000 row.now }
-    requires positions { AllByRecursion (λ q. q < length bounds.now) queue.old.items }
-    requires covers { Covers row.now bounds.now queue.old.items }
-    ensures worst { result ≡ worst row.now bounds.now }
-    ensures kept { queue.new.items ≡ filter (breaks row.now bounds.now) queue.old.items }
-    ensures capacity { vec_capacity queue.new ≡ vec_capacity queue.old }
-{
-    let mut place = 0;
-    let mut far = 0;
-    let mut count = 0;
-    for i in 0..queue.len() {
-        let q = queue[i];
-        let over = excess(row, bounds[q]);
-        let best = lead(place, far, q, over);
-        place = best.0;
-        far = best.1;
-        if over > 0 {
-            queue[count] = q;
-            count += 1;
+impl Work {
+    /// The position of the bound that the row breaks most, the first of several. The queue has each bound that is broken, and
+    /// keeps just those.
+    pub(crate) fn pick(&mut self) -> Option<usize>
+        requires positions { AllByRecursion (λ q. q < length self.old.bounds.items.items) self.old.queue.items }
+        requires covers { Covers self.old.row.items self.old.bounds.items.items self.old.queue.items }
+        ensures picked { Picked self.old.row.items self.old.bounds.items.items result }
+        ensures kept { self.new.queue.items ≡ filter (breaks self.old.row.items self.old.bounds.items.items) self.old.queue.items }
+        ensures bounds { self.new.bounds ≡ self.old.bounds }
+        ensures row { self.new.row ≡ self.old.row }
+        ensures steps { self.new.steps ≡ self.old.steps }
+    {
+        let mut best = None;
+        let mut kept = 0;
+        // not `retain`: its test has to take any number, and only the position of a bound can be looked up
+        for i in 0..self.queue.len() {
+            let q = self.queue[i];
+            let over = self.bounds.excess(q, &self.row);
+            if over > 0 {
+                best = Some(lead(best, q, over));
+                self.queue[kept] = q;
+                kept += 1;
+            }
         }
+        self.queue.truncate(kept);
+        best.map(|w| w.0)
     }
-    queue.truncate(count);
-    (place, far)
 }
 
 /// Puts the bounds with the base `x` that the row breaks at the queue's end.
-pub(crate) fn enqueue(bounds: &[Bound], index: &Index, x: u16, row: &[i64], queue: &mut Vec<usize>)
-    requires named { Named (length row.now) bounds.now }
-    requires small { Each Small bounds.now }
-    requires few { length bounds.now ≤ 128 }
+pub(crate) fn enqueue(bounds: &Bounds, x: u16, row: &[i64], queue: &mut Vec<usize>)
+    requires within { x < bounds.now.terms }
+    requires long { length row.now ≡ bounds.now.terms }
     requires inside { Inside 40000 row.now }
-    requires index { Indexed bounds.now index.now }
-    requires within { x < length index.now.heads.items }
-    requires room { length queue.old.items + length (broken_on row.now bounds.now x (length bounds.now)) ≤ vec_capacity queue.old }
-    ensures items { queue.new.items ≡ queue.old.items ++ broken_on row.now bounds.now x (length bounds.now) }
+    requires room { length queue.old.items + length (broken_on row.now bounds.now.items.items x) ≤ vec_capacity queue.old }
+    ensures items { queue.new.items ≡ queue.old.items ++ broken_on row.now bounds.now.items.items x }
     ensures capacity { vec_capacity queue.new ≡ vec_capacity queue.old }
 {
-    let mut link = index.heads[x as usize];
-    while link > 0 {
-        let q = usize::from(link - 1);
-        if excess(row, bounds[q]) > 0 {
+    for q in bounds.based(x) {
+        if bounds.excess(q, row) > 0 {
             queue.push_reserved(q);
         }
-        link = index.nexts[q];
     }
 }

@@ -1,120 +1,115 @@
 //! Settling a row of numbers after one more bound, and the cycle that is found instead.
-ghost use Rattle.std.specs.Prelude.{◌≡◌, ℕ, ◌+◌, ◌-◌, ◌*◌, ◌<◌, ◌≤◌, false, [], length, take, IfSome, vec_capacity, MatchOption, slice_index_or};
+ghost use Rattle.std.specs.Prelude.{◌≡◌, ℕ, ◌+◌, ◌-◌, ◌<◌, ◌≤◌, false, [], ◌∷◌, ◌++◌, length, take, pos, ◌<ℤ◌, IfSome, IfOk, vec_capacity, vec_len, MatchOption, slice_index_or, slice_set};
 ghost use Rattle.std.specs.List.{AllByRecursion};
 ghost use Rattle.theory.specs.Literals.{has};
-ghost use Rattle.difference.specs.Bounds.{at, Each, Named};
-ghost use Rattle.difference.specs.Settling.{around, core, settle, outcome, fits, clash};
-ghost use Rattle.difference.specs.Depth.{Small};
-ghost use Rattle.distance.specs.Index.{Indexed};
-ghost use Rattle.distance.specs.Rows.{part, told};
+ghost use Rattle.difference.specs.Bounds.{at};
+ghost use Rattle.difference.specs.Settling.{around, core, limit, excess, outcome, fits, clash};
+ghost use Rattle.difference.specs.Depth.{Inside};
+ghost use Rattle.distance.specs.Queue.{broken_on};
 
-use crate::excess::limit;
-use crate::index::Index;
-use crate::queue::{enqueue, pick};
-use difference::Bound;
+use crate::bounds::Bounds;
+use crate::queue::enqueue;
+use std::alloc::{AllocError, Global};
 
-/// Lowers terms until no bound is broken, and then answers `None`; or until a bound would lower the term `last`, and then
-/// answers that bound's position. The row keeps all bounds but the last, whose base is `last`, so the queue starts with that
-/// one; a lowered term can break only bounds with that base. The steps are the positions of the bounds that lowered a term.
-fn settle_row(
-    bounds: &[Bound],
-    index: &Index,
-    last: u16,
-    row: &mut [i64],
-    steps: &mut Vec<usize>,
-    queue: &mut Vec<usize>,
-) -> Option<usize>
-    requires named { Named (length row.old) bounds.now }
-    requires small { Each Small bounds.now }
-    requires few { (length row.old ≤ 256) × ((length bounds.now ≤ 128) × (0 < length bounds.now)) }
-    requires last { last ≡ (at bounds.now (length bounds.now - 1)).base }
-    requires before { outcome (length row.old) (take (length bounds.now - 1) bounds.now) ≡ fits row.old }
-    requires room { (length row.old < vec_capacity steps.old) × (length bounds.now ≤ vec_capacity queue.old) }
-    requires index { (Indexed bounds.now index.now) × (length index.now.heads.items ≡ length row.old) }
-    ensures settles { MatchOption result (settle bounds.now last (length row.old + 1) row.old [] ≡ fits row.new) (λ p. settle bounds.now last (length row.old + 1) row.old [] ≡ clash (core bounds.now steps.new.items p)) }
-    ensures within { IfSome result (λ p. p < length bounds.now) }
-    ensures positions { AllByRecursion (λ q. q < length bounds.now) steps.new.items }
-    ensures capacity { (vec_capacity steps.new ≡ vec_capacity steps.old) × (vec_capacity queue.new ≡ vec_capacity queue.old) }
-{
-    steps.clear();
-    queue.clear();
-    queue.push_reserved(bounds.len() - 1);
-    let mut left = row.len() + 1;
-    while left > 0 {
-        left -= 1;
-        let (p, far) = pick(bounds, row, queue);
-        if far <= 0 {
-            return None;
-        }
-        let b = bounds[p];
-        if b.term == last {
-            return Some(p);
-        }
-        let low = limit(row, b);
-        row[b.term as usize] = low;
-        steps.push_reserved(p);
-        enqueue(bounds, index, b.term, row, queue);
-    }
-    None
+/// What settling works on: the bounds, a row of numbers, the positions of the bounds that lowered a term of it, one after
+/// another, and the queue of those that it may break.
+#[derive(Drop)]
+pub(crate) struct Work {
+    pub(crate) bounds: Bounds,
+    pub(crate) row: Vec<i64>,
+    pub(crate) steps: Vec<usize>,
+    pub(crate) queue: Vec<usize>,
+    ghost long: { length row.items ≡ bounds.terms },
+    ghost inside: { Inside 40000 row.items },
+    ghost step_room: { bounds.terms < vec_capacity steps },
+    ghost queue_room: { length bounds.nexts.items ≤ vec_capacity queue },
 }
 
-/// Marks the bounds of the cycle that the bound at `p` closes, and no others.
-fn mark_cycle(bounds: &[Bound], steps: &[usize], p: usize, marks: &mut [bool])
-    requires few { length bounds.now ≤ 128 }
-    requires within { p < length bounds.now }
-    requires positions { AllByRecursion (λ q. q < length bounds.now) steps.now }
-    requires long { length bounds.now ≤ length marks.old }
-    ensures { (q : ℕ) → slice_index_or marks.new q false ≡ has (around bounds.now steps.now p) q }
-{
-    marks.fill(false);
-    marks[p] = true;
-    let mut x = bounds[p].base;
-    let mut k = steps.len();
-    while k > 0 {
-        k -= 1;
-        let q = steps[k];
-        let b = bounds[q];
-        if b.term == x {
-            marks[q] = true;
-            x = b.base;
-        }
+impl Work {
+    /// No bounds, with room for `most`.
+    pub(crate) fn new(heap: Global, terms: usize, most: usize) -> Result<Work, AllocError>
+        requires few_terms { terms ≤ 256 }
+        requires few { most ≤ 128 }
+        ensures none { IfOk result (λ w. w.bounds.items.items ≡ []) }
+        ensures terms { IfOk result (λ w. w.bounds.terms ≡ terms) }
+        ensures most { IfOk result (λ w. length w.bounds.nexts.items ≡ most) }
+    {
+        let bounds = Bounds::new(heap, terms, most)?;
+        let row = vec![in heap; 0i64; terms]?;
+        let steps = Vec::with_capacity(heap, terms + 1)?;
+        let queue = Vec::with_capacity(heap, most)?;
+        Ok(Work {
+            bounds,
+            row,
+            steps,
+            queue,
+        })
     }
-}
 
-/// Whether some numbers keep all bounds, of which row `n - 1` keeps all but the last. If so, row `n` holds the greatest
-/// that are at most 0; if not, the bounds of a cycle are marked.
-pub(crate) fn extend(
-    bounds: &[Bound],
-    index: &Index,
-    rows: &mut [i64],
-    work: &mut [i64],
-    steps: &mut Vec<usize>,
-    queue: &mut Vec<usize>,
-    marks: &mut [bool],
-) -> bool
-    requires named { Named (length work.old) bounds.now }
-    requires small { Each Small bounds.now }
-    requires few { (length work.old ≤ 256) × ((length bounds.now ≤ 128) × (0 < length bounds.now)) }
-    requires room { (length work.old < vec_capacity steps.old) × ((length bounds.now ≤ length marks.old) × ((length bounds.now * length work.old + length work.old ≤ length rows.old) × (length bounds.now ≤ vec_capacity queue.old))) }
-    requires index { (Indexed bounds.now index.now) × (length index.now.heads.items ≡ length work.old) }
-    requires before { outcome (length work.old) (take (length bounds.now - 1) bounds.now) ≡ fits (part (length work.old) (length bounds.now - 1) rows.old) }
-    ensures answer { outcome (length work.old) bounds.now ≡ told (length work.old) (length bounds.now) rows.new marks.new result }
-    ensures kept { take (length bounds.now * length work.old) rows.new ≡ take (length bounds.now * length work.old) rows.old }
-    ensures capacity { (vec_capacity steps.new ≡ vec_capacity steps.old) × (vec_capacity queue.new ≡ vec_capacity queue.old) }
-{
-    let m = work.len();
-    let n = bounds.len();
-    let last = bounds[n - 1].base;
-    let from = (n - 1) * m;
-    work.copy_from_slice(&rows[from..from + m]);
-    match settle_row(bounds, index, last, work, steps, queue) {
-        None => {
-            rows[from + m..from + m + m].copy_from_slice(work);
-            true
+    /// Lowers the term of the bound at `p` to what it allows, and queues those that the row then breaks.
+    fn lower(&mut self, p: usize)
+        requires within { p < length self.old.bounds.items.items }
+        requires broken { pos 0 <ℤ excess self.old.row.items (at self.old.bounds.items.items p) }
+        requires inside { Inside 39999 self.old.row.items }
+        requires step_room { length self.old.steps.items < vec_capacity self.old.steps }
+        requires queue_room { length self.old.queue.items + length (broken_on (slice_set self.old.row.items (at self.old.bounds.items.items p).term (limit self.old.row.items (at self.old.bounds.items.items p))) self.old.bounds.items.items (at self.old.bounds.items.items p).term) ≤ length self.old.bounds.items.items }
+        ensures row { self.new.row.items ≡ slice_set self.old.row.items (at self.old.bounds.items.items p).term (limit self.old.row.items (at self.old.bounds.items.items p)) }
+        ensures steps { self.new.steps.items ≡ self.old.steps.items ++ p ∷ [] }
+        ensures queue { self.new.queue.items ≡ self.old.queue.items ++ broken_on (slice_set self.old.row.items (at self.old.bounds.items.items p).term (limit self.old.row.items (at self.old.bounds.items.items p))) self.old.bounds.items.items (at self.old.bounds.items.items p).term }
+        ensures bounds { self.new.bounds ≡ self.old.bounds }
+    {
+        let x = self.bounds.items[p].term;
+        self.row[usize::from(x)] = self.bounds.limit(p, &self.row);
+        self.steps.push_reserved(p);
+        enqueue(&self.bounds, x, &self.row, &mut self.queue);
+    }
+
+    /// Whether some numbers keep all bounds, of which the numbers `before` keep all but the last. If so, the row has the greatest
+    /// that are at most 0; if not, the answer is the position of the bound that closes a cycle.
+    ///
+    /// Terms are lowered until no bound is broken, or until a bound would lower the last bound's base. All bounds but the last
+    /// are kept at first, so the queue starts with that one; a lowered term can break only bounds with that base.
+    pub(crate) fn settle(&mut self, before: &[i64]) -> Option<usize>
+        requires some { 0 < length self.old.bounds.items.items }
+        requires long { length before.now ≡ self.old.bounds.terms }
+        requires before { outcome self.old.bounds.terms (take (length self.old.bounds.items.items - 1) self.old.bounds.items.items) ≡ fits before.now }
+        ensures settles { MatchOption result (outcome self.old.bounds.terms self.old.bounds.items.items ≡ fits self.new.row.items) (λ p. outcome self.old.bounds.terms self.old.bounds.items.items ≡ clash (core self.old.bounds.items.items self.new.steps.items p)) }
+        ensures within { IfSome result (λ p. p < length self.old.bounds.items.items) }
+        ensures positions { AllByRecursion (λ q. q < length self.old.bounds.items.items) self.new.steps.items }
+        ensures bounds { self.new.bounds ≡ self.old.bounds }
+    {
+        let last = self.bounds.len() - 1;
+        let base = self.bounds.items[last].base;
+        self.row.copy_from_slice(before);
+        self.steps.clear();
+        self.queue.clear();
+        self.queue.push_reserved(last);
+        for _ in 0..=before.len() {
+            let p = self.pick()?;
+            if self.bounds.items[p].term == base {
+                return Some(p);
+            }
+            self.lower(p);
         }
-        Some(p) => {
-            mark_cycle(bounds, steps, p, marks);
-            false
+        None
+    }
+
+    /// Marks the bounds of the cycle that the bound at `p` closes, and no others.
+    pub(crate) fn mark_cycle(&self, p: usize, marks: &mut [bool])
+        requires within { p < length self.now.bounds.items.items }
+        requires positions { AllByRecursion (λ q. q < length self.now.bounds.items.items) self.now.steps.items }
+        requires long { length self.now.bounds.items.items ≤ length marks.old }
+        ensures { (q : ℕ) → slice_index_or marks.new q false ≡ has (around self.now.bounds.items.items self.now.steps.items p) q }
+    {
+        marks.fill(false);
+        marks[p] = true;
+        let mut x = self.bounds.items[p].base;
+        for &q in self.steps.iter().rev() {
+            let b = self.bounds.items[q];
+            if b.term == x {
+                marks[q] = true;
+                x = b.base;
+            }
         }
     }
 }

@@ -4,7 +4,7 @@ use Rattle.std.proofs.lemmas.Bool.{cases_eq}
 use Rattle.std.proofs.lemmas.List.{get_or_append_left, get_or_push, length-take-le, length_push}
 use Rattle.theory.specs.declared.term.Term.{Term}
 use Rattle.theory.specs.Literals.{claim, names, Proper}
-use Rattle.theory.proofs.Claims.{proper_push, proper_take, proper_few, proper_at}
+use Rattle.theory.proofs.Claims.{proper_push, proper_take, proper_few}
 use Rattle.congruence.specs.declared.claim.Claim.{Claim}
 use Rattle.congruence.specs.declared.step.Step.{Step}
 use Rattle.congruence.specs.Merges.{absorb, log_at, log_of}
@@ -37,7 +37,7 @@ module _ (ts : List Term) (claims : List Claim) (list merges : List ℕ) (ss : L
 
   pub held_listed : Named ts claims → Listed ts claims list
   held_listed named p lt =
-      let low : get_or list p 0 < 2 * length claims = proper_at (length claims) list p h.proper lt in
+      let low : get_or list p 0 < 2 * length claims = h.proper.below p 0 lt in
       let known : claim (get_or list p 0) < length claims = omega arith in
       let n = named (claim (get_or list p 0)) known in
       (known, n.0, n.1)

@@ -1,6 +1,7 @@
 //! The state of the equality theory: the list, and what it led to after each of its literals.
-ghost use Rattle.std.specs.Prelude.{◌≡◌, ℕ, ◌+◌, ◌*◌, ◌<◌, ◌≤◌, true, false, length, vec_capacity, nat_lt, slice_index, slice_index_or};
-ghost use Rattle.theory.specs.Literals.{every, apart};
+ghost use Rattle.std.specs.Prelude.{◌≡◌, ℕ, ◌+◌, ◌*◌, ◌<◌, ◌≤◌, true, false, length, vec_capacity, slice_index, slice_index_or};
+ghost use Rattle.std.specs.List.{All};
+ghost use Rattle.theory.specs.Literals.{apart};
 ghost use Rattle.congruence.specs.Merges.{log_at};
 ghost use Rattle.congruence.specs.Equality.{Named};
 ghost use Rattle.equality.specs.Logs.{until};
@@ -27,7 +28,7 @@ pub struct Equality<'a> {
     ghost named: { Named closure.terms.records.now claims.now },
     ghost room: { length claims.now ≤ vec_capacity list },
     ghost merges_room: { length claims.now < vec_capacity merges },
-    ghost below: { every (λ l. nat_lt l (2 * length claims.now)) list.items ≡ true },
+    ghost below: { All (λ l. l < 2 * length claims.now) list.items },
     ghost distinct: { apart list.items ≡ true },
     ghost merges_long: { length merges.items ≡ length list.items + 1 },
     ghost rising: { (j k : ℕ) → j ≤ k → k ≤ length list.items → slice_index merges.items j ≤ slice_index merges.items k },

@@ -1,13 +1,23 @@
 //! The answers of a theory to the calls of a book, one line for each.
 use book::{Asked, Call};
 use std::alloc::{AllocError, Global};
+use std::fmt;
 use theory::{Found, Literal, Refusal, Theory, Trial};
 
 /// Why there are no answers.
-#[derive(Clone, Copy)]
+#[derive(Clone, Copy, PartialEq, Eq, Debug)]
 pub enum Unanswered {
     NoTrial { line: usize },
     NoMemory,
+}
+
+impl fmt::Display for Unanswered {
+    fn fmt<W: fmt::Write>(&self, f: &mut fmt::Formatter<W>) -> fmt::Result {
+        match *self {
+            Unanswered::NoTrial { line } => write!(f, "{line}: no trial is open to close"),
+            Unanswered::NoMemory => write!(f, "no memory is left"),
+        }
+    }
 }
 
 impl From<AllocError> for Unanswered {
@@ -16,144 +26,139 @@ impl From<AllocError> for Unanswered {
     }
 }
 
-/// The line of a call that answers no more than whether it was refused.
-fn plain(out: &mut String, call: Call, told: Result<(), Refusal>) -> Result<(), AllocError> {
-    match told {
-        Ok(()) => writeln!(out, "{call}: ok"),
-        Err(refusal) => refused(out, call, refusal),
-    }
-}
-
-fn refused(out: &mut String, call: Call, refusal: Refusal) -> Result<(), AllocError> {
-    let number = refusal.number();
-    writeln!(out, "{call}: refused {number}")
-}
-
-fn query<T: Theory>(
+/// A theory while its calls are answered: the trials that are open, the latest last, and the answers so far.
+struct Session<'t, T: Theory> {
     heap: Global,
-    theory: &mut T,
-    out: &mut String,
-    len: Option<u16>,
-) -> Result<(), Unanswered> {
-    let call = Call::Query(len);
-    let room = match len {
-        Some(len) => usize::from(len),
-        None => theory.claims(),
-    };
-    let mut core = vec![in heap; 0u16; room]?;
-    match theory.query(&mut core) {
-        Ok(Found::Possible) => writeln!(out, "{call}: possible")?,
-        Ok(Found::Impossible(n)) => {
-            write!(out, "{call}: impossible")?;
-            for position in core.iter().take(n) {
-                write!(out, " {position}")?;
-            }
-            writeln!(out)?;
+    theory: &'t mut T,
+    open: Vec<Trial>,
+    out: String,
+}
+
+impl<'t, T: Theory> Session<'t, T> {
+    fn new(heap: Global, theory: &'t mut T) -> Session<'t, T> {
+        Session {
+            heap,
+            theory,
+            open: Vec::new(heap),
+            out: String::new(heap),
         }
-        Err(refusal) => refused(out, call, refusal)?,
     }
-    Ok(())
-}
 
-fn write<T: Theory>(
-    heap: Global,
-    theory: &mut T,
-    out: &mut String,
-    len: Option<u16>,
-) -> Result<(), Unanswered> {
-    let call = Call::Write(len);
-    let terms = theory.terms();
-    let room = match len {
-        Some(len) => usize::from(len),
-        None => terms,
-    };
-    let mut place = vec![in heap; 0i64; room]?;
-    match theory.write(&mut place) {
-        Ok(()) => {
-            write!(out, "{call}:")?;
-            if terms == 0 {
-                write!(out, " -")?;
-            }
-            for number in place.iter().take(terms) {
-                write!(out, " {number}")?;
-            }
-            writeln!(out)?;
+    /// The line of a call that answers no more than whether it was refused.
+    fn plain(&mut self, call: Call, told: Result<(), Refusal>) -> Result<(), AllocError> {
+        match told {
+            Ok(()) => writeln!(self.out, "{call}: ok"),
+            Err(refusal) => self.refused(call, refusal),
         }
-        Err(refusal) => refused(out, call, refusal)?,
     }
-    Ok(())
-}
 
-fn open_trial<T: Theory>(
-    theory: &mut T,
-    open: &mut Vec<Trial>,
-    out: &mut String,
-    l: Literal,
-) -> Result<(), Unanswered> {
-    match Trial::open(theory, l) {
-        Ok(trial) => {
-            if let Err(back) = open.push(trial) {
-                back.value.close(theory);
-                return Err(Unanswered::NoMemory);
-            }
-            plain(out, Call::Trial(l), Ok(()))?;
+    fn refused(&mut self, call: Call, refusal: Refusal) -> Result<(), AllocError> {
+        let number = refusal.number();
+        writeln!(self.out, "{call}: refused {number}")
+    }
+
+    /// The first of some numbers, each with a blank before it, and the line's end.
+    fn row<N: fmt::Display>(&mut self, numbers: &[N], len: usize) -> Result<(), AllocError> {
+        for number in numbers.iter().take(len) {
+            write!(self.out, " {number}")?;
         }
-        Err(refusal) => refused(out, Call::Trial(l), refusal)?,
+        writeln!(self.out)
     }
-    Ok(())
-}
 
-fn close_trial<T: Theory>(
-    theory: &mut T,
-    open: &mut Vec<Trial>,
-    out: &mut String,
-    line: usize,
-) -> Result<(), Unanswered> {
-    let Some(trial) = open.pop() else {
-        return Err(Unanswered::NoTrial { line });
-    };
-    trial.close(theory);
-    plain(out, Call::Close, Ok(()))?;
-    Ok(())
-}
-
-fn answer<T: Theory>(
-    heap: Global,
-    theory: &mut T,
-    open: &mut Vec<Trial>,
-    out: &mut String,
-    asked: Asked,
-) -> Result<(), Unanswered> {
-    match asked.call {
-        Call::Assert(l) => plain(out, asked.call, theory.assert(l))?,
-        Call::TakeBack(k) => plain(out, asked.call, theory.take_back(k))?,
-        Call::Query(len) => query(heap, theory, out, len)?,
-        Call::Write(len) => write(heap, theory, out, len)?,
-        Call::Trial(l) => open_trial(theory, open, out, l)?,
-        Call::Close => close_trial(theory, open, out, asked.line)?,
+    fn query(&mut self, len: Option<u16>) -> Result<(), AllocError> {
+        let call = Call::Query(len);
+        let room = len.map_or(self.theory.claims(), usize::from);
+        let mut core = vec![in self.heap; 0u16; room]?;
+        match self.theory.query(&mut core) {
+            Ok(Found::Possible) => writeln!(self.out, "{call}: possible"),
+            Ok(Found::Impossible(n)) => {
+                write!(self.out, "{call}: impossible")?;
+                self.row(&core, n)
+            }
+            Err(refusal) => self.refused(call, refusal),
+        }
     }
-    Ok(())
-}
 
-fn answer_all<T: Theory>(
-    heap: Global,
-    theory: &mut T,
-    open: &mut Vec<Trial>,
-    out: &mut String,
-    calls: &[Asked],
-) -> Result<(), Unanswered> {
-    for asked in calls {
-        answer(heap, theory, open, out, *asked)?;
+    fn write(&mut self, len: Option<u16>) -> Result<(), AllocError> {
+        let call = Call::Write(len);
+        let terms = self.theory.terms();
+        let room = len.map_or(terms, usize::from);
+        let mut place = vec![in self.heap; 0i64; room]?;
+        match self.theory.write(&mut place) {
+            Ok(()) => {
+                write!(self.out, "{call}:")?;
+                if terms == 0 {
+                    write!(self.out, " -")?;
+                }
+                self.row(&place, terms)
+            }
+            Err(refusal) => self.refused(call, refusal),
+        }
     }
-    Ok(())
-}
 
-/// Closes the trials that are still open, the latest first.
-fn close_all<T: Theory>(theory: &mut T, mut open: Vec<Trial>) {
-    while let Some(trial) = open.pop() {
-        trial.close(theory);
+    fn open_trial(&mut self, l: Literal) -> Result<(), Unanswered> {
+        let call = Call::Trial(l);
+        match Trial::open(self.theory, l) {
+            Ok(trial) => {
+                if let Err(back) = self.open.push(trial) {
+                    back.value.close(self.theory);
+                    return Err(Unanswered::NoMemory);
+                }
+                self.plain(call, Ok(()))?;
+            }
+            Err(refusal) => self.refused(call, refusal)?,
+        }
+        Ok(())
     }
-    open.destroy_empty();
+
+    fn close_trial(&mut self, line: usize) -> Result<(), Unanswered> {
+        let Some(trial) = self.open.pop() else {
+            return Err(Unanswered::NoTrial { line });
+        };
+        trial.close(self.theory);
+        self.plain(Call::Close, Ok(()))?;
+        Ok(())
+    }
+
+    fn answer(&mut self, asked: Asked) -> Result<(), Unanswered> {
+        match asked.call {
+            Call::Assert(l) => {
+                let told = self.theory.assert(l);
+                self.plain(asked.call, told)?;
+            }
+            Call::TakeBack(k) => {
+                let told = self.theory.take_back(k);
+                self.plain(asked.call, told)?;
+            }
+            Call::Query(len) => self.query(len)?,
+            Call::Write(len) => self.write(len)?,
+            Call::Trial(l) => self.open_trial(l)?,
+            Call::Close => self.close_trial(asked.line)?,
+        }
+        Ok(())
+    }
+
+    fn answer_all(&mut self, calls: &[Asked]) -> Result<(), Unanswered> {
+        for asked in calls {
+            self.answer(*asked)?;
+        }
+        Ok(())
+    }
+
+    /// Closes the trials that are still open, the latest first, and hands out the answers.
+    fn end(self) -> String {
+        let Session {
+            heap: _,
+            theory,
+            mut open,
+            out,
+        } = self;
+        while let Some(trial) = open.pop() {
+            trial.close(theory);
+        }
+        open.destroy_empty();
+        out
+    }
 }
 
 /// One line for each call: its words, a colon, and the answer.
@@ -162,10 +167,9 @@ pub fn answers<T: Theory>(
     theory: &mut T,
     calls: &[Asked],
 ) -> Result<String, Unanswered> {
-    let mut open = Vec::new(heap);
-    let mut out = String::new(heap);
-    let told = answer_all(heap, theory, &mut open, &mut out, calls);
-    close_all(theory, open);
+    let mut session = Session::new(heap, theory);
+    let told = session.answer_all(calls);
+    let out = session.end();
     told?;
     Ok(out)
 }

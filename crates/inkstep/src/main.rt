@@ -4,32 +4,68 @@
 mod answers;
 
 use answers::{Unanswered, answers};
-use book::{Asked, Book, Unread};
-use equality::make;
-use std::alloc::AllocError;
+use book::{Fault, Unread};
 use std::io::Read;
 use std::process::ExitCode;
-use std::{env, fs, io};
-use theory::{Theory, Unmade};
+use std::{env, fmt, fs, io};
+use theory::{Refusal, Unmade};
 
 const USAGE: &str = "usage:
     inkstep ask FILE    answer the calls of a book; - is standard input
     inkstep help        print this
 ";
 
-/// The run failed, and what is wrong is written already.
-#[derive(Drop)]
-struct Failed;
+/// Why a file has no answers.
+#[derive(Debug, Drop)]
+enum Failure {
+    NoFile(io::Error),
+    Unread(Unread),
+    Unmade(Unmade),
+    Unanswered(Unanswered),
+}
 
-impl From<io::Error> for Failed {
-    fn from(_e: io::Error) -> Failed {
-        Failed
+impl fmt::Display for Failure {
+    fn fmt<W: fmt::Write>(&self, f: &mut fmt::Formatter<W>) -> fmt::Result {
+        match self {
+            Failure::NoFile(e) => write!(f, "{e}"),
+            Failure::Unread(e) => write!(f, "{e}"),
+            Failure::Unmade(e) => write!(f, "{e}"),
+            Failure::Unanswered(e) => write!(f, "{e}"),
+        }
     }
 }
 
-impl From<AllocError> for Failed {
-    fn from(_e: AllocError) -> Failed {
-        Failed
+impl Failure {
+    /// Whether it begins with the number of a line.
+    fn has_line(&self) -> bool {
+        matches!(
+            self,
+            Failure::Unread(Unread::Fault(_)) | Failure::Unanswered(Unanswered::NoTrial { .. })
+        )
+    }
+}
+
+impl From<io::Error> for Failure {
+    fn from(e: io::Error) -> Failure {
+        Failure::NoFile(e)
+    }
+}
+
+impl From<Unread> for Failure {
+    fn from(e: Unread) -> Failure {
+        Failure::Unread(e)
+    }
+}
+
+impl From<Unmade> for Failure {
+    fn from(e: Unmade) -> Failure {
+        Failure::Unmade(e)
+    }
+}
+
+impl From<Unanswered> for Failure {
+    fn from(e: Unanswered) -> Failure {
+        Failure::Unanswered(e)
     }
 }
 
@@ -42,99 +78,42 @@ fn bytes_of(rt: &HostRuntime, file: &str) -> io::Result<Vec<u8>> {
     Ok(bytes)
 }
 
-fn book_of(rt: &HostRuntime, file: &str) -> Result<Book, Failed> {
-    let bytes = match bytes_of(rt, file) {
-        Ok(bytes) => bytes,
-        Err(e) => {
-            eprintln!(rt; "{file}: {e}")?;
-            return Err(Failed);
-        }
-    };
-    match book::read(rt.alloc(), &bytes) {
-        Ok(book) => Ok(book),
-        Err(Unread::Fault(fault)) => {
-            let line = fault.line;
-            let wrong = fault.wrong;
-            eprintln!(rt; "{file}:{line}: {wrong}")?;
-            Err(Failed)
-        }
-        Err(Unread::NoMemory) => {
-            eprintln!(rt; "{file}: no memory is left")?;
-            Err(Failed)
-        }
-    }
+/// The answers to the calls of a book.
+fn ask(rt: &HostRuntime, file: &str) -> Result<String, Failure> {
+    let heap = rt.alloc();
+    let bytes = bytes_of(rt, file)?;
+    let book = book::read(heap, &bytes)?;
+    let mut theory = equality::make(heap, &book.terms, &book.claims)?;
+    let text = answers(heap, &mut theory, &book.calls)?;
+    Ok(text)
 }
 
-/// Prints the answers of a theory, or what is wrong.
-fn serve<T: Theory + Drop>(
-    rt: &HostRuntime,
-    file: &str,
-    made: Result<T, Unmade>,
-    calls: &[Asked],
-) -> Result<(), Failed> {
-    match made {
-        Ok(mut theory) => tell(rt, file, answers(rt.alloc(), &mut theory, calls)),
-        Err(Unmade::Refused(refusal)) => {
-            let number = refusal.number();
-            eprintln!(rt; "{file}: refused {number}: {refusal}")?;
-            Err(Failed)
-        }
-        Err(Unmade::NoMemory) => {
-            eprintln!(rt; "{file}: no memory is left")?;
-            Err(Failed)
-        }
-    }
-}
-
-fn tell(rt: &HostRuntime, file: &str, told: Result<String, Unanswered>) -> Result<(), Failed> {
-    match told {
-        Ok(text) => {
-            rt.print(text)?;
-            Ok(())
-        }
-        Err(Unanswered::NoTrial { line }) => {
-            eprintln!(rt; "{file}:{line}: no trial is open to close")?;
-            Err(Failed)
-        }
-        Err(Unanswered::NoMemory) => {
-            eprintln!(rt; "{file}: no memory is left")?;
-            Err(Failed)
-        }
-    }
-}
-
-fn ask(rt: &HostRuntime, file: &str) -> Result<(), Failed> {
-    let book = book_of(rt, file)?;
-    serve(
-        rt,
-        file,
-        make(rt.alloc(), &book.terms, &book.claims),
-        &book.calls,
-    )
-}
-
-fn run(rt: &HostRuntime, words: &[String]) -> Result<(), Failed> {
+/// Runs the command that the words name. An error is that of a stream, of which no more can be written.
+fn run(rt: &HostRuntime, words: &[String]) -> io::Result<ExitCode> {
     match words {
         [] => rt.print(USAGE)?,
         [word] if word.as_str() == "help" => rt.print(USAGE)?,
-        [word, file] if word.as_str() == "ask" => ask(rt, file.as_str())?,
+        [word, file] if word.as_str() == "ask" => match ask(rt, file.as_str()) {
+            Ok(text) => rt.print(text)?,
+            Err(failure) => {
+                let gap = if failure.has_line() { "" } else { " " };
+                eprintln!(rt; "{file}:{gap}{failure}")?;
+                return Ok(ExitCode::FAILURE);
+            }
+        },
         _ => {
             rt.eprint(USAGE)?;
-            return Err(Failed);
+            return Ok(ExitCode::FAILURE);
         }
     }
-    Ok(())
+    Ok(ExitCode::SUCCESS)
 }
 
-fn start(rt: &HostRuntime) -> Result<(), Failed> {
+fn start(rt: &HostRuntime) -> io::Result<ExitCode> {
     let words: Vec<String> = env::args(rt)?.skip(1).collect(rt.alloc())?;
     run(rt, &words)
 }
 
-/// What is wrong is written where it is found, so a failed run only has its status.
 fn main(rt: HostRuntime) -> ExitCode {
-    match start(&rt) {
-        Ok(()) => ExitCode::SUCCESS,
-        Err(Failed) => ExitCode::FAILURE,
-    }
+    start(&rt).unwrap_or(ExitCode::FAILURE)
 }

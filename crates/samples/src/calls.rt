@@ -1,9 +1,28 @@
-//! Calls on any theory, and what they tell, as numbers that a test compares.
+//! Calls on any theory, and what they tell.
 use std::alloc::{AllocError, Global};
 use std::test::Fail;
 use theory::literal::complement_of;
 use theory::trial::query_with;
 use theory::{Found, Literal, Refusal, Term, Theory, Unmade};
+
+/// Why calls went no further: no theory was made, or one was refused.
+#[derive(Clone, Copy, PartialEq, Eq, Debug)]
+pub enum Stopped {
+    Unmade(Unmade),
+    Refused(Refusal),
+}
+
+impl From<Unmade> for Stopped {
+    fn from(e: Unmade) -> Stopped {
+        Stopped::Unmade(e)
+    }
+}
+
+impl From<Refusal> for Stopped {
+    fn from(e: Refusal) -> Stopped {
+        Stopped::Refused(e)
+    }
+}
 
 pub fn constant(symbol: u16) -> Term {
     Term {
@@ -14,45 +33,19 @@ pub fn constant(symbol: u16) -> Term {
 }
 
 pub fn constants(heap: Global, n: u16) -> Result<Vec<Term>, AllocError> {
-    let mut terms = Vec::new(heap);
-    for symbol in 0..n {
-        terms.push(constant(symbol))?;
-    }
-    Ok(terms)
+    (0..n).map(constant).collect(heap)
 }
 
-/// The refusal's number, or 0 where a theory was made.
-pub fn unmade<T: Theory + Drop>(made: Result<T, Unmade>) -> u8 {
-    match made {
-        Ok(_theory) => 0,
-        Err(Unmade::Refused(refusal)) => refusal.number(),
-        Err(Unmade::NoMemory) => 255,
-    }
+/// What a test compares where no theory is to be made.
+pub fn refused(refusal: Refusal) -> Option<Unmade> {
+    Some(Unmade::Refused(refusal))
 }
 
-pub fn number(told: Result<(), Refusal>) -> u8 {
-    match told {
-        Ok(()) => 0,
-        Err(refusal) => refusal.number(),
-    }
-}
-
-/// The core's length, 0 where the list is possible, or 1000 more than a refusal's number.
-pub fn found(told: Result<Found, Refusal>) -> usize {
-    match told {
-        Ok(Found::Possible) => 0,
-        Ok(Found::Impossible(n)) => n,
-        Err(refusal) => 1000 + usize::from(refusal.number()),
-    }
-}
-
-pub fn assert_all<T: Theory>(theory: &mut T, literals: &[Literal]) -> u8 {
+pub fn assert_all<T: Theory>(theory: &mut T, literals: &[Literal]) -> Result<(), Refusal> {
     for l in literals {
-        if let Err(refusal) = theory.assert(*l) {
-            return refusal.number();
-        }
+        theory.assert(*l)?;
     }
-    0
+    Ok(())
 }
 
 /// Asserts the literals and writes a fit.
@@ -60,14 +53,11 @@ pub fn write_after<T: Theory + Drop>(
     made: Result<T, Unmade>,
     literals: &[Literal],
     place: &mut [i64],
-) -> u8 {
-    match made {
-        Ok(mut theory) => match assert_all(&mut theory, literals) {
-            0 => number(theory.write(place)),
-            refused => refused,
-        },
-        Err(_) => 255,
-    }
+) -> Result<(), Stopped> {
+    let mut theory = made?;
+    assert_all(&mut theory, literals)?;
+    theory.write(place)?;
+    Ok(())
 }
 
 /// Asserts the literals and queries.
@@ -75,14 +65,11 @@ pub fn query_after<T: Theory + Drop>(
     made: Result<T, Unmade>,
     literals: &[Literal],
     place: &mut [u16],
-) -> usize {
-    match made {
-        Ok(mut theory) => match assert_all(&mut theory, literals) {
-            0 => found(theory.query(place)),
-            refused => 1000 + usize::from(refused),
-        },
-        Err(_) => 2000,
-    }
+) -> Result<Found, Stopped> {
+    let mut theory = made?;
+    assert_all(&mut theory, literals)?;
+    let found = theory.query(place)?;
+    Ok(found)
 }
 
 /// Fails a test whose two values differ.
@@ -101,40 +88,46 @@ pub fn at_edges<T: Theory + Drop>(
     short_place: &mut [i64],
     place: &mut [i64],
 ) -> Result<(), Fail> {
-    match made {
-        Ok(mut theory) => {
-            agree(number(theory.assert(4)), 5)?;
-            agree(number(theory.assert(3)), 0)?;
-            agree(number(theory.assert(2)), 6)?;
-            agree(number(theory.take_back(2)), 7)?;
-            agree(number(theory.take_back(1)), 0)?;
-            agree(found(theory.query(short_core)), 1008)?;
-            agree(number(theory.write(short_place)), 9)?;
-            agree(number(theory.write(place)), 0)?;
-            Ok(())
-        }
-        Err(_) => Err(Fail::new("no theory")),
-    }
+    let mut theory = made.map_err(|_| Fail::new("no theory"))?;
+    agree(theory.assert(4), Err(Refusal::NoSuchLiteral))?;
+    agree(theory.assert(3), Ok(()))?;
+    agree(theory.assert(2), Err(Refusal::ClaimOnList))?;
+    agree(theory.take_back(2), Err(Refusal::AboveLength))?;
+    agree(theory.take_back(1), Ok(()))?;
+    agree(theory.query(short_core), Err(Refusal::ShortCorePlace))?;
+    agree(theory.write(short_place), Err(Refusal::ShortFitPlace))?;
+    agree(theory.write(place), Ok(()))
 }
 
 /// A trial, and one inside it, over three constants and the claims 0 = 1, 1 = 2, 0 = 2.
 pub fn trials<T: Theory + Drop>(made: Result<T, Unmade>, core: &mut [u16]) -> Result<(), Fail> {
-    match made {
-        Ok(mut theory) => {
-            agree(number(theory.assert(0)), 0)?;
-            agree(found(query_with(&mut theory, 5, core)), 0)?;
-            agree(number(theory.assert(2)), 0)?;
-            agree(found(query_with(&mut theory, 5, core)), 3)?;
-            agree(found(query_with(&mut theory, 3, core)), 1006)?;
-            agree(theory.asserted_len(), 2)?;
-            Ok(())
-        }
-        Err(_) => Err(Fail::new("no theory")),
-    }
+    let mut theory = made.map_err(|_| Fail::new("no theory"))?;
+    agree(theory.assert(0), Ok(()))?;
+    agree(query_with(&mut theory, 5, core), Ok(Found::Possible))?;
+    agree(theory.assert(2), Ok(()))?;
+    agree(query_with(&mut theory, 5, core), Ok(Found::Impossible(3)))?;
+    agree(query_with(&mut theory, 3, core), Err(Refusal::ClaimOnList))?;
+    agree(theory.asserted_len(), 2)
 }
 
 #[test]
 fn complements(rt: HostRuntime) {
     assert_eq!(rt; complement_of(6), 7);
     assert_eq!(rt; complement_of(7), 6);
+}
+
+/// The numbers by which callers know the refusals.
+#[test]
+fn refusal_numbers(rt: HostRuntime) {
+    assert_eq!(rt; Refusal::PastLimit.number(), 1);
+    assert_eq!(rt; Refusal::ArgumentNotLower.number(), 2);
+    assert_eq!(rt; Refusal::TermHasArgument.number(), 2);
+    assert_eq!(rt; Refusal::NoSuchTerm.number(), 3);
+    assert_eq!(rt; Refusal::ConstantOutOfRange.number(), 3);
+    assert_eq!(rt; Refusal::NoSuchLiteral.number(), 5);
+    assert_eq!(rt; Refusal::ClaimOnList.number(), 6);
+    assert_eq!(rt; Refusal::AboveLength.number(), 7);
+    assert_eq!(rt; Refusal::ShortCorePlace.number(), 8);
+    assert_eq!(rt; Refusal::ShortFitPlace.number(), 9);
+    assert_eq!(rt; Refusal::ListImpossible.number(), 10);
 }

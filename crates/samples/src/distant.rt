@@ -3,8 +3,9 @@ use crate::calls::*;
 use difference::Bound;
 use distance::make;
 use std::alloc::{AllocError, Global};
+use std::iter;
 use std::test::Fail;
-use theory::{Literal, Term};
+use theory::{Found, Literal, Refusal, Term};
 
 /// The claim that `term` minus `base` is at most `most`.
 fn apart(term: u16, base: u16, most: i32) -> Bound {
@@ -19,13 +20,11 @@ fn chain(
     end: u16,
     back: i32,
 ) -> Result<Vec<Bound>, AllocError> {
-    let mut claims = Vec::new(heap);
     let last = length.saturating_sub(1);
-    for term in 0..last {
-        claims.push(apart(term, term.saturating_add(1), step))?;
-    }
-    claims.push(apart(last, end, back))?;
-    Ok(claims)
+    (0..last)
+        .map(|term| apart(term, term.saturating_add(1), step))
+        .chain(iter::once(apart(last, end, back)))
+        .collect(heap)
 }
 
 /// A chain back to its first term.
@@ -35,10 +34,11 @@ fn ring(heap: Global, length: u16, step: i32, back: i32) -> Result<Vec<Bound>, A
 
 /// The literals from `first` on, by twos, of 128 claims in their order or from the last back.
 fn literals(heap: Global, first: Literal, reversed: bool) -> Result<Vec<Literal>, AllocError> {
-    let mut all = Vec::new(heap);
-    for i in 0..128u16 {
-        let claim = if reversed { 127 - i } else { i };
-        all.push(first.wrapping_add(2 * claim))?;
+    let mut all: Vec<Literal> = (0..128u16)
+        .map(|claim| first.wrapping_add(claim.wrapping_mul(2)))
+        .collect(heap)?;
+    if reversed {
+        all.reverse();
     }
     Ok(all)
 }
@@ -50,13 +50,13 @@ fn one_below_and_not_above(rt: HostRuntime) -> Result<(), Fail> {
     let mut core = [9u16; 3];
     assert_eq!(rt;
         query_after(make(rt.alloc(), &terms, &claims), &[0, 2], &mut core),
-        2
+        Ok(Found::Impossible(2))
     );
     assert_eq!(rt; core, [0, 1, 9]);
     let mut place = [5i64; 2];
     assert_eq!(rt;
         write_after(make(rt.alloc(), &terms, &claims), &[0, 2], &mut place),
-        10
+        Err(Stopped::Refused(Refusal::ListImpossible))
     );
     assert_eq!(rt; place, [5, 5]);
     Ok(())
@@ -69,7 +69,7 @@ fn one_below_and_one_above(rt: HostRuntime) -> Result<(), Fail> {
     let mut place = [5i64; 3];
     assert_eq!(rt;
         write_after(make(rt.alloc(), &terms, &claims), &[0, 2], &mut place),
-        0
+        Ok(())
     );
     assert_eq!(rt; place, [-1, 0, 5]);
     Ok(())
@@ -82,17 +82,17 @@ fn a_denial_is_one_more(rt: HostRuntime) -> Result<(), Fail> {
     let mut place = [5i64; 2];
     assert_eq!(rt;
         write_after(make(rt.alloc(), &terms, &claims), &[1], &mut place),
-        0
+        Ok(())
     );
     assert_eq!(rt; place, [0, -4]);
     let mut core = [9u16; 3];
     assert_eq!(rt;
         query_after(make(rt.alloc(), &terms, &claims), &[1, 2, 4], &mut core),
-        0
+        Ok(Found::Possible)
     );
     assert_eq!(rt;
         query_after(make(rt.alloc(), &terms, &claims), &[0, 3], &mut core),
-        2
+        Ok(Found::Impossible(2))
     );
     assert_eq!(rt; core, [0, 1, 9]);
     Ok(())
@@ -103,25 +103,46 @@ fn limits(rt: HostRuntime) -> Result<(), Fail> {
     let heap = rt.alloc();
     let one = [constant(0)];
     let two = constants(heap, 2)?;
-    assert_eq!(rt; unmade(make(heap, &constants(heap, 256)?, &[])), 0);
-    assert_eq!(rt; unmade(make(heap, &constants(heap, 257)?, &[])), 1);
-    assert_eq!(rt; unmade(make(heap, &one, &ring(heap, 1, 0, 0)?)), 0);
+    assert_eq!(rt; make(heap, &constants(heap, 256)?, &[]).err(), None);
     assert_eq!(rt;
-        unmade(make(heap, &constants(heap, 128)?, &ring(heap, 128, 0, 0)?)),
-        0
+        make(heap, &constants(heap, 257)?, &[]).err(),
+        refused(Refusal::PastLimit)
+    );
+    assert_eq!(rt; make(heap, &one, &ring(heap, 1, 0, 0)?).err(), None);
+    assert_eq!(rt;
+        make(heap, &constants(heap, 128)?, &ring(heap, 128, 0, 0)?).err(),
+        None
     );
     assert_eq!(rt;
-        unmade(make(heap, &constants(heap, 129)?, &ring(heap, 129, 0, 0)?)),
-        1
+        make(heap, &constants(heap, 129)?, &ring(heap, 129, 0, 0)?).err(),
+        refused(Refusal::PastLimit)
     );
-    assert_eq!(rt; unmade(make(heap, &two, &[apart(0, 1, 1_000_000)])), 0);
-    assert_eq!(rt; unmade(make(heap, &two, &[apart(0, 1, 1_000_001)])), 3);
-    assert_eq!(rt; unmade(make(heap, &two, &[apart(0, 1, -1_000_000)])), 0);
-    assert_eq!(rt; unmade(make(heap, &two, &[apart(0, 1, -1_000_001)])), 3);
-    assert_eq!(rt; unmade(make(heap, &two, &[apart(0, 1, i32::MIN)])), 3);
-    assert_eq!(rt; unmade(make(heap, &two, &[apart(0, 1, i32::MAX)])), 3);
-    assert_eq!(rt; unmade(make(heap, &two, &[apart(1, 2, 0)])), 3);
-    assert_eq!(rt; unmade(make(heap, &two, &[apart(2, 1, 0)])), 3);
+    assert_eq!(rt; make(heap, &two, &[apart(0, 1, 1_000_000)]).err(), None);
+    assert_eq!(rt;
+        make(heap, &two, &[apart(0, 1, 1_000_001)]).err(),
+        refused(Refusal::ConstantOutOfRange)
+    );
+    assert_eq!(rt; make(heap, &two, &[apart(0, 1, -1_000_000)]).err(), None);
+    assert_eq!(rt;
+        make(heap, &two, &[apart(0, 1, -1_000_001)]).err(),
+        refused(Refusal::ConstantOutOfRange)
+    );
+    assert_eq!(rt;
+        make(heap, &two, &[apart(0, 1, i32::MIN)]).err(),
+        refused(Refusal::ConstantOutOfRange)
+    );
+    assert_eq!(rt;
+        make(heap, &two, &[apart(0, 1, i32::MAX)]).err(),
+        refused(Refusal::ConstantOutOfRange)
+    );
+    assert_eq!(rt;
+        make(heap, &two, &[apart(1, 2, 0)]).err(),
+        refused(Refusal::NoSuchTerm)
+    );
+    assert_eq!(rt;
+        make(heap, &two, &[apart(2, 1, 0)]).err(),
+        refused(Refusal::NoSuchTerm)
+    );
     Ok(())
 }
 
@@ -138,10 +159,22 @@ fn applied(arity: u8) -> Term {
 fn lower_numbers_first(rt: HostRuntime) {
     let heap = rt.alloc();
     let bad = [apart(0, 9, 0)];
-    assert_eq!(rt; unmade(make(heap, &[constant(0), applied(1)], &[])), 2);
-    assert_eq!(rt; unmade(make(heap, &[constant(0), applied(2)], &bad)), 2);
-    assert_eq!(rt; unmade(make(heap, &[constant(0), applied(3)], &[])), 1);
-    assert_eq!(rt; unmade(make(heap, &[applied(1), applied(3)], &bad)), 1);
+    assert_eq!(rt;
+        make(heap, &[constant(0), applied(1)], &[]).err(),
+        refused(Refusal::TermHasArgument)
+    );
+    assert_eq!(rt;
+        make(heap, &[constant(0), applied(2)], &bad).err(),
+        refused(Refusal::TermHasArgument)
+    );
+    assert_eq!(rt;
+        make(heap, &[constant(0), applied(3)], &[]).err(),
+        refused(Refusal::PastLimit)
+    );
+    assert_eq!(rt;
+        make(heap, &[applied(1), applied(3)], &bad).err(),
+        refused(Refusal::PastLimit)
+    );
 }
 
 #[test]
@@ -186,7 +219,7 @@ fn a_chain_over_256_terms(rt: HostRuntime) -> Result<(), Fail> {
                 &literals(heap, 0, reversed)?,
                 &mut place,
             ),
-            0
+            Ok(())
         );
         assert_eq!(rt; place[0], -128_000_000);
         assert_eq!(rt; place[127], -1_000_000);
@@ -209,7 +242,7 @@ fn the_largest_constants(rt: HostRuntime) -> Result<(), Fail> {
             &literals(heap, 1, false)?,
             &mut place,
         ),
-        0
+        Ok(())
     );
     assert_eq!(rt; place[0], 0);
     assert_eq!(rt; place[127], -127_000_127);
@@ -227,11 +260,14 @@ fn a_ring_of_128(rt: HostRuntime) -> Result<(), Fail> {
     for reversed in [false, true] {
         let all = literals(heap, 0, reversed)?;
         let mut core = [999u16; 129];
-        assert_eq!(rt; query_after(make(heap, &terms, &even), &all, &mut core), 0);
+        assert_eq!(rt;
+            query_after(make(heap, &terms, &even), &all, &mut core),
+            Ok(Found::Possible)
+        );
         assert_eq!(rt; core[0], 999);
         assert_eq!(rt;
             query_after(make(heap, &terms, &below), &all, &mut core),
-            128
+            Ok(Found::Impossible(128))
         );
         assert_eq!(rt; core[0], 0);
         assert_eq!(rt; core[127], 127);

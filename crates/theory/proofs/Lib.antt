@@ -1,5 +1,4 @@
 pub mod Lists
-pub mod Ways
 pub mod Claims
 pub mod Answers
 pub mod Positions

@@ -4,6 +4,7 @@ ghost use Rattle.theory.specs.Terms.{Arities, Limits};
 
 /// A measure of a face: a symbol applied to arguments, which are numbers of terms.
 /// `args[i]` counts only where `i` is below `arity`; a record may hold anything.
+// The count stands beside the arguments: the interface fixes the record, and a count past the limit is refused, not unsayable.
 #[derive(Clone, Copy, PartialEq, Eq, Debug)]
 pub struct Term {
     pub symbol: u16,
@@ -15,20 +16,12 @@ pub struct Term {
 pub fn few_arguments(terms: &[Term], most: u8) -> bool
     ensures { Decides result (Arities most terms.now) }
 {
-    for t in terms {
-        if t.arity > most {
-            return false;
-        }
-    }
-    true
+    terms.iter().all(|t| t.arity <= most)
 }
 
 /// Whether there are at most 256 terms, with at most `most` arguments each, and at most 128 claims.
 pub fn within_limits(terms: &[Term], claims: usize, most: u8) -> bool
     ensures { Decides result (Limits most terms.now claims) }
 {
-    if terms.len() > 256 || claims > 128 {
-        return false;
-    }
-    few_arguments(terms, most)
+    terms.len() <= 256 && claims <= 128 && few_arguments(terms, most)
 }

@@ -15,9 +15,9 @@ pub struct Trial {
 impl Trial {
     /// Asserts one literal, and hands out the duty to close.
     pub fn open<T: Theory>(theory: &mut T, l: Literal) -> Result<Trial, Refusal>
-        ensures shape { T.Theory.shape_of theory.new ≡ T.Theory.shape_of theory.old }
-        ensures says { result ≡ trial_says (T.Theory.means (T.Theory.shape_of theory.old)) (T.Theory.asserted theory.old) l }
-        ensures list { T.Theory.asserted theory.new ≡ assert_leaves (T.Theory.means (T.Theory.shape_of theory.old)) (T.Theory.asserted theory.old) l }
+        ensures shape { T.shape_of theory.new ≡ T.shape_of theory.old }
+        ensures says { result ≡ trial_says (T.means (T.shape_of theory.old)) (T.asserted theory.old) l }
+        ensures list { T.asserted theory.new ≡ assert_leaves (T.means (T.shape_of theory.old)).claims (T.asserted theory.old) l }
     {
         let len = theory.asserted_len();
         theory.assert(l)?;
@@ -26,8 +26,8 @@ impl Trial {
 
     /// Cuts the list to its length before the trial, if it is longer.
     pub fn close<T: Theory>(self, theory: &mut T)
-        ensures shape { T.Theory.shape_of theory.new ≡ T.Theory.shape_of theory.old }
-        ensures list { T.Theory.asserted theory.new ≡ take_back_leaves (T.Theory.asserted theory.old) self.len }
+        ensures shape { T.shape_of theory.new ≡ T.shape_of theory.old }
+        ensures list { T.asserted theory.new ≡ take_back_leaves (T.asserted theory.old) self.len }
     {
         let Trial { len } = self;
         let _ = theory.take_back(len);
@@ -36,10 +36,10 @@ impl Trial {
 
 /// Asks as `query` does, with one more literal on the list, which is gone again afterwards.
 pub fn query_with<T: Theory>(theory: &mut T, l: Literal, core: &mut [u16]) -> Result<Found, Refusal>
-    ensures shape { T.Theory.shape_of theory.new ≡ T.Theory.shape_of theory.old }
-    ensures list { T.Theory.asserted theory.new ≡ T.Theory.asserted theory.old }
-    ensures says { result ≡ trial_query_says (T.Theory.means (T.Theory.shape_of theory.old)) (T.Theory.asserted theory.old) l core.old }
-    ensures place { core.new ≡ trial_query_leaves (T.Theory.means (T.Theory.shape_of theory.old)) (T.Theory.asserted theory.old) l core.old }
+    ensures shape { T.shape_of theory.new ≡ T.shape_of theory.old }
+    ensures list { T.asserted theory.new ≡ T.asserted theory.old }
+    ensures says { result ≡ trial_query_says (T.means (T.shape_of theory.old)) (T.asserted theory.old) l core.old }
+    ensures place { core.new ≡ trial_query_leaves (T.means (T.shape_of theory.old)) (T.asserted theory.old) l core.old }
 {
     let trial = Trial::open(theory, l)?;
     let found = theory.query(core);

@@ -3,7 +3,9 @@ ghost use Rattle.std.specs.Prelude.{◌≡◌, ℕ, ◌<◌, List, length};
 ghost use Rattle.theory.specs.Literals.{claim};
 ghost use Rattle.difference.specs.declared.bound.Bound.{Bound};
 ghost use Rattle.difference.specs.Distance.{bound_of, distances};
+ghost use Rattle.difference.specs.Depth.{InRange};
 ghost use Rattle.difference.proofs.Law.{stands};
+ghost use Rattle.distance.specs.Table.{terms_of};
 
 use crate::state::Distance;
 use difference::Bound;
@@ -12,10 +14,11 @@ use theory::{Found, Literal, Refusal, Theory};
 
 /// What a literal says: its claim, or that claim's denial.
 fn bound_of(claims: &[Bound], l: Literal) -> Bound
-    requires { claim l < length claims.now }
+    requires within { claim l < length claims.now }
+    requires range { InRange claims.now }
     ensures { result ≡ bound_of claims.now l }
 {
-    let c = claims[l as usize / 2];
+    let c = claims[usize::from(l / 2)];
     if l % 2 == 0 {
         return c;
     }
@@ -29,13 +32,13 @@ fn bound_of(claims: &[Bound], l: Literal) -> Bound
 impl<'a> Theory for Distance<'a> {
     ghost Shape = { ℕ × List Bound };
 
-    ghost shape_of = { λ d. (d.table.terms, d.claims.now) };
+    ghost shape_of = { λ d. (terms_of d.table, d.claims.now) };
 
     ghost means = { λ s. distances s.0 s.1 };
 
     ghost asserted = { λ d. d.list.items };
 
-    ghost lawful = { λ d. (stands d.table.terms d.claims.now d.table.few.0 d.few d.named).law };
+    ghost lawful = { λ d. (stands (terms_of d.table) d.claims.now d.table.work.bounds.few_terms d.few d.named).law };
 
     ghost proper = { λ d. record { below = d.below; apart_claims = d.distinct } };
 
@@ -44,7 +47,7 @@ impl<'a> Theory for Distance<'a> {
     }
 
     fn terms(&self) -> usize {
-        self.table.terms
+        self.table.terms()
     }
 
     fn asserted_len(&self) -> usize {
@@ -52,7 +55,7 @@ impl<'a> Theory for Distance<'a> {
     }
 
     fn assert(&mut self, l: Literal) -> Result<(), Refusal> {
-        if l as usize >= 2 * self.claims.len() {
+        if usize::from(l) >= 2 * self.claims.len() {
             return Err(Refusal::NoSuchLiteral);
         }
         if names(&self.list, l) {
@@ -76,11 +79,11 @@ impl<'a> Theory for Distance<'a> {
         if place.len() < self.claims.len() {
             return Err(Refusal::ShortCorePlace);
         }
-        Ok(self.table.find(place))
+        self.table.find(place)
     }
 
     fn write(&mut self, place: &mut [i64]) -> Result<(), Refusal> {
-        if place.len() < self.table.terms {
+        if place.len() < self.table.terms() {
             return Err(Refusal::ShortFitPlace);
         }
         self.table.put(place)

@@ -7,7 +7,7 @@ returns c =
     let s = c.requires in (
       s,
       record {
-        terms_are = c.in_ok-table.ensures.1;
+        terms_are = c.in_ok-table.ensures.terms;
         claims_are = refl;
         nothing = c.in_ok-list.ensures.items;
         stands = stands (length c.args.terms.now) c.args.claims.now s.limits.few_terms s.limits.few_claims s.named;

@@ -1,25 +1,35 @@
-use Rattle.std.proofs.Common.{◌+◌, ◌<◌, Bool, List, length, vec_items, sym, ap, ◌∙◌, arith}
+use Rattle.std.proofs.Common.{◌≡◌, ◌<◌, ◌≤◌, Bool, List, ℕ, length, Ok, vec_items, sym, ap, ◌∙◌, arith}
+use Rattle.std.proofs.lemmas.Bool.Decides.{nat_tests}
 use Rattle.theory.specs.declared.refusal.Found.TheVariants.{Impossible}
 use Rattle.theory.specs.Calls.{told, core_over, over}
+use Rattle.theory.specs.Positions.{marked, marks_say, marks_leave}
 use Rattle.difference.specs.Settling.{Outcome}
 use Rattle.difference.specs.Distance.{answer_of}
-use Rattle.distance.specs.Rows.{marked}
 use Rattle.distance.proofs.Holding.{held, all_possible, not_possible}
 use Rattle.distance.proofs.table.Table.find.Goals as goal
 
 pub returns-then-self-len : goal.returns-then-self-len
 returns-then-self-len c =
     let s = c.args.self.now in
-    let o = all_possible s.terms s.most (vec_items s.bounds) (vec_items s.rows) s.good (vec_items s.marks) (held s) (c.if-self-len.true ∙ c.len.ensures ∙ s.bounds.ok.0) in
-    record { says = sym (ap (λ (z : Outcome). told (answer_of z)) o); place = sym (ap (λ (z : Outcome). core_over (answer_of z) c.args.place.now) o) }
+    let b = s.work.bounds in
+    let o = all_possible b.terms (length (vec_items b.nexts)) (vec_items b.items) (vec_items s.rows) s.good (vec_items s.marks) (held s) (c.if-self-len.true ∙ c.len.ensures) in
+    record { says = sym (ap (λ (z : Outcome). Ok (told (answer_of z))) o); place = sym (ap (λ (z : Outcome). core_over (answer_of z) c.args.place.now) o) }
+
+-- the marks fit into the place
+put_down : (marks : List Bool) (place : List ℕ) → length marks ≤ 128 → length marks ≤ length place → (marks_say marks place ≡ Ok (length (marked marks))) × (marks_leave marks place ≡ over (marked marks) place)
+put_down marks place a b = (grind (arith, nat_tests), grind (arith, nat_tests))
 
 pub returns : goal.returns
 returns c =
     let s = c.args.self.now in
-    let some : s.good < length (vec_items s.bounds) = omega (arith, c.if-self-len.false, c.len.ensures, s.bounds.ok.0, s.lengths.0) in
-    let o = not_possible s.terms s.most (vec_items s.bounds) (vec_items s.rows) s.good (vec_items s.marks) (held s) some in
-    let ms = c.deref.ensures.value in
+    let b = s.work.bounds in
+    let some : s.good < length (vec_items b.items) = omega (arith, c.if-self-len.false, c.len.ensures, s.reached) in
+    let o = not_possible b.terms (length (vec_items b.nexts)) (vec_items b.items) (vec_items s.rows) s.good (vec_items s.marks) (held s) some in
+    let d = put_down (vec_items s.marks) c.args.place.now (omega (arith, s.mark_each, b.few)) c.requires in
+    let n : Ok c.in_ok-n.n ≡ Ok (length (marked (vec_items s.marks))) =
+    sym c.in_ok-n.was ∙ c.list_marks.ensures.says ∙ ap (λ z. marks_say z c.args.place.now) c.deref.ensures.value ∙ d.0 in
+    let n_is : c.in_ok-n.n ≡ length (marked (vec_items s.marks)) = cc in
     record {
-      says = ap Impossible (c.list_marks.ensures.told ∙ ap (λ (z : List Bool). length (marked (s.good + 1) z)) ms) ∙ sym (ap (λ (z : Outcome). told (answer_of z)) o);
-      place = c.list_marks.ensures.place ∙ ap (λ (z : List Bool). over (marked (s.good + 1) z) c.args.place.now) ms ∙ sym (ap (λ (z : Outcome). core_over (answer_of z) c.args.place.now) o);
+      says = ap (λ k. Ok (Impossible k)) n_is ∙ sym (ap (λ (z : Outcome). Ok (told (answer_of z))) o);
+      place = c.list_marks.ensures.place ∙ ap (λ z. marks_leave z c.args.place.now) c.deref.ensures.value ∙ d.1 ∙ sym (ap (λ (z : Outcome). core_over (answer_of z) c.args.place.now) o);
     }

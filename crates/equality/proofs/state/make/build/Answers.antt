@@ -25,7 +25,7 @@ none : (ts us : List Term) (claims : List Claim) (list merges : List ℕ) (ss : 
     → Held us claims list merges ss
 none ts us claims list merges ss same el em e =
     subst (λ (x : List ℕ). Held us claims x merges ss) (sym el) (subst (λ (x : List ℕ). Held us claims [] x ss) (sym em) (subst (λ (x : List Term). Held x claims [] (length ss ∷ []) ss) (sym same) (record {
-      proper = record { below = refl; apart_claims = refl };
+      proper = record { below = λ k d h. absurd (omega (arith, h)); apart_claims = refl };
       merges_long = refl;
       rising = λ j k a b. let z : j ≡ k = omega arith in omega (arith, ap (λ (i : ℕ). get_or (length ss ∷ []) i 0) z);
       logged = λ k h. let z : k ≡ 0 = omega arith in

@@ -1,4 +1,4 @@
-use Rattle.std.proofs.Common.{◌≡◌, ℕ, ◌<◌, false, List, [], ◌∷◌, ◌++◌, length, vec_items, sym, ap, ◌∙◌, subst, arith}
+use Rattle.std.proofs.Common.{◌≡◌, ℕ, ◌*◌, ◌<◌, false, List, [], ◌∷◌, ◌++◌, length, vec_items, sym, ap, ◌∙◌, subst, arith}
 use Rattle.std.proofs.lemmas.List.{length-map, length_push, map_push}
 use Rattle.theory.specs.Literals.{names, Proper}
 use Rattle.theory.proofs.Claims.{proper_push, proper_few}
@@ -7,15 +7,19 @@ use Rattle.difference.specs.Bounds.{Named}
 use Rattle.difference.specs.Depth.{Small}
 use Rattle.difference.specs.Distance.{bound_of, said}
 use Rattle.difference.proofs.Law.{bound_named, bound_small}
+use Rattle.distance.specs.Table.{terms_of}
 use Rattle.distance.proofs.state.calls.DistanceTheory.assert.Goals as goal
 use Rattle.distance.proofs.state.calls.DistanceTheory.assert.Goals.{After-bound_of}
+
+below : (c : After-bound_of) → c.args.l < 2 * length c.args.self.now.claims.now
+below c = omega (arith, c.from.ensures, c.if-from-self.false)
 
 -- the list with the literal
 longer : (c : goal.After-bound_of) → Proper (length c.args.self.now.claims.now) (vec_items c.args.self.now.list ++ c.args.l ∷ [])
 longer c =
     let s = c.args.self.now in
     let new : names (vec_items s.list) c.args.l ≡ false = ap (λ (x : List ℕ). names x c.args.l) (sym c.deref.ensures.value) ∙ sym c.names.ensures ∙ c.if-names.false in
-    proper_push (length s.claims.now) (vec_items s.list) c.args.l (record { below = s.below; apart_claims = s.distinct }) c.if-l-self.false new
+    proper_push (length s.claims.now) (vec_items s.list) c.args.l (record { below = s.below; apart_claims = s.distinct }) (below c) new
 
 -- so there is room for one more
 room : (c : goal.After-bound_of) → length (vec_items c.args.self.now.list) < length c.args.self.now.claims.now
@@ -29,9 +33,9 @@ add-requires c =
     let claims = s.claims.now in
     let d = (goal.at.add-requires c).After-bound_of in
     record {
-      named = subst (λ (b : Bound). (b.term < s.table.terms) × (b.base < s.table.terms)) (sym c.bound_of.ensures) (bound_named s.table.terms claims s.named c.args.l c.if-l-self.false);
-      small = subst Small (sym c.bound_of.ensures) (bound_small claims s.range c.args.l c.if-l-self.false);
-      room = omega (arith, room d, s.most, s.table.bounds.ok.0, ap length s.says, length-map (vec_items s.list) (bound_of claims));
+      named = subst (λ (b : Bound). (b.term < (terms_of s.table)) × (b.base < (terms_of s.table))) (sym c.bound_of.ensures) (bound_named (terms_of s.table) claims s.named c.args.l (below d));
+      small = subst Small (sym c.bound_of.ensures) (bound_small claims s.range c.args.l (below d));
+      room = omega (arith, room d, s.most, ap length s.says, length-map (vec_items s.list) (bound_of claims));
     }
 
 pub push_reserved-requires : goal.push_reserved-requires
@@ -48,10 +52,10 @@ invariant_of-self c =
     ∙ sym (map_push (bound_of claims) (vec_items s.list) c.args.l) ∙ ap (said claims) (sym c.push_reserved.ensures.items) in
     record {
       few = s.few;
-      named = subst (λ m. Named m claims) (sym c.add.ensures.same.0) s.named;
+      named = subst (λ m. Named m claims) (sym c.add.ensures.terms) s.named;
       range = s.range;
       room = omega (arith, c.push_reserved.ensures.capacity, s.room);
-      most = c.add.ensures.same.1 ∙ s.most;
+      most = c.add.ensures.most ∙ s.most;
       below = left.below;
       distinct = left.apart_claims;
       says = says;

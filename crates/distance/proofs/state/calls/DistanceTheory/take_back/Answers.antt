@@ -9,7 +9,7 @@ use Rattle.distance.proofs.state.calls.DistanceTheory.take_back.Goals as goal
 pub cut-requires : goal.cut-requires
 cut-requires c =
     let s = c.args.self.now in
-    omega (arith, c.if-k-len.false, c.len.ensures, s.list.ok.0, s.table.bounds.ok.0, ap length s.says, length-map (vec_items s.list) (bound_of s.claims.now))
+    omega (arith, c.if-k-len.false, c.len.ensures, s.list.ok.0, ap length s.says, length-map (vec_items s.list) (bound_of s.claims.now))
 
 pub invariant_of-self : goal.invariant_of-self
 invariant_of-self c =
@@ -20,10 +20,10 @@ invariant_of-self c =
     let says = c.cut.ensures.list ∙ ap (take c.args.k) s.says ∙ take-map (bound_of claims) c.args.k (vec_items s.list) ∙ ap (said claims) (sym c.truncate.ensures.items) in
     record {
       few = s.few;
-      named = subst (λ m. Named m claims) (sym c.cut.ensures.same.0) s.named;
+      named = subst (λ m. Named m claims) (sym c.cut.ensures.terms) s.named;
       range = s.range;
       room = omega (arith, c.truncate.ensures.capacity, s.room);
-      most = c.cut.ensures.same.1 ∙ s.most;
+      most = c.cut.ensures.most ∙ s.most;
       below = left.below;
       distinct = left.apart_claims;
       says = says;
