@@ -1,64 +1,114 @@
--- A row of merges that grows, with its labels. Assumes nothing.
-use Rattle.std.proofs.Common.{◌≡◌, ℕ, zero, suc, ◌+◌, ◌-◌, ◌*◌, ◌%◌, ◌<◌, ◌≤◌, min, max, eqb, List, [], ◌∷◌, length, get_or, set, Some, None, Option, sym, refl, ap, ◌∙◌, subst, ⊎_elim, add-one, arith}
-use Rattle.std.proofs.lemmas.Bool.{cases_eq, eq-eqb, ne_eqb, cond-true, cond-false}
-use Rattle.std.proofs.lemmas.List.{get_or-set_same, get_or-set_other}
+-- A row of merges that grows or is cut, with its labels. Assumes nothing.
+use Rattle.std.proofs.Common.{◌≡◌, ℕ, zero, suc, ◌+◌, ◌<◌, ◌≤◌, min, max, List, [], ◌∷◌, ◌++◌, length, get_or, take, sym, refl, ap, ◌∙◌, subst, ⊎_elim, add-one, arith, get_or-take}
+use Rattle.std.proofs.lemmas.Bool.{cases_eq}
+use Rattle.std.proofs.lemmas.List.{get_or_push, get_or_append_left, length_push, length-take-le}
 use Rattle.theory.specs.declared.term.Term.{Term}
-use Rattle.congruence.specs.declared.claim.Claim.{Claim}
 use Rattle.congruence.specs.declared.step.Step.{Step}
 use Rattle.congruence.specs.declared.step.Reason.{Reason}
-use Rattle.congruence.specs.declared.step.Reason.TheVariants.{Congruence, Asserted}
-use Rattle.congruence.specs.Table.{Lower}
-use Rattle.congruence.specs.Merges.{relabel, label, merge, twin, merge_on, pass, sweep, settle, join, pair_of, absorb}
-use Rattle.congruence.specs.Log.{RestsOn, Formed}
-use Rattle.congruence.proofs.Closing.{roots, roots_few, roots_some, merge_falls, merged, label_low, label_root}
-use Rattle.equality.specs.Logs.{step_at, until, label_at, cell, Tabled, Ready, Ran}
-use Rattle.equality.proofs.Twins.{twins_same}
+use Rattle.congruence.specs.Merges.{relabel, label, merge, pass, sweep, settle}
+use Rattle.congruence.specs.Log.{RestsOn, Rightful, Formed}
+use Rattle.congruence.proofs.Closing.{roots, roots_few, roots_some, merge_falls, merged, label_low, label_root, settle_still}
+use Rattle.equality.specs.Logs.{step_at, until, log, label_at, cell, Tabled, Ran}
 
 -- ---- one more merge in the row
 
-until_set : (ss : List Step) (n : ℕ) (s : Step) (j : ℕ) → j ≤ n → until (set ss n s) j ≡ until ss j
-until_set ss n s zero h = refl
-until_set ss n s (suc j) h =
-    ap (λ (x : Step). x ∷ until (set ss n s) j) (get_or-set_other ss n j s _ (omega arith)) ∙ ap (λ (xs : List Step). step_at ss j ∷ xs) (until_set ss n s j (omega arith))
+until_push : (ss : List Step) (s : Step) (j : ℕ) → j ≤ length ss → until (ss ++ s ∷ []) j ≡ until ss j
+until_push ss s zero h = refl
+until_push ss s (suc j) h =
+    ap (λ (x : Step). x ∷ until (ss ++ s ∷ []) j) (get_or_append_left ss (s ∷ []) _ j (omega arith)) ∙ ap (λ (xs : List Step). step_at ss j ∷ xs) (until_push ss s j (omega arith))
 
-until_more : (ss : List Step) (n : ℕ) (s : Step) → n < length ss → until (set ss n s) (n + 1) ≡ s ∷ until ss n
-until_more ss n s h =
-    ap (until (set ss n s)) (add-one n) ∙ ap (λ (x : Step). x ∷ until (set ss n s) n) (get_or-set_same ss n s _ h) ∙ ap (λ (xs : List Step). s ∷ xs) (until_set ss n s n (omega arith))
+log_push : (ss : List Step) (s : Step) → log (ss ++ s ∷ []) ≡ s ∷ log ss
+log_push ss s =
+    ap (until (ss ++ s ∷ [])) (length_push ss s ∙ add-one (length ss))
+    ∙ ap (λ (x : Step). x ∷ until (ss ++ s ∷ []) (length ss)) (get_or_push ss s _ (length ss) refl) ∙ ap (λ (xs : List Step). s ∷ xs) (until_push ss s (length ss) (omega arith))
 
-pub record Pushed (ts : List Term) (ss rs : List Step) (n : ℕ) (rows : List ℕ) (a b : ℕ) (reason : Reason) : Type 0 where
-  pub log : until rs (n + 1) ≡ merge (until ss n) a b reason ∷ until ss n
-  pub before : (j : ℕ) → j ≤ n → until rs j ≡ until ss j
-  pub tabled : Tabled ts rows rs (n + 1)
+-- the row of labels after one more merge
+tabled_push : (rows : List (List ℕ)) (ss : List Step) (row : List ℕ) (s : Step) → length rows ≡ length ss + 1 → Tabled rows ss
+    → ((t : ℕ) → t < 256 → get_or row t 0 ≡ relabel s.high s.low (cell rows (length ss) t)) → Tabled (rows ++ row ∷ []) (ss ++ s ∷ [])
+tabled_push rows ss row s long tabled each k t h few = ⊎_elim
+    (λ (q : k ≡ length ss + 1).
+    ap (λ (x : List ℕ). get_or x t 0) (get_or_push rows row [] k (omega arith)) ∙ each t few ∙ ap (relabel s.high s.low) (tabled (length ss) t (omega arith) few)
+    ∙ sym (ap (λ (l : List Step). label l t) (ap (until (ss ++ s ∷ [])) (q ∙ sym (length_push ss s)) ∙ log_push ss s)))
+    (λ (q : k ≡ length ss + 1 → ⊥).
+    let low : k ≤ length ss = omega (arith, length_push ss s) in
+    ap (λ (x : List ℕ). get_or x t 0) (get_or_append_left rows (row ∷ []) [] k (omega arith)) ∙ tabled k t low few ∙ ap (λ (l : List Step). label l t) (sym (until_push ss s k low)))
+    (cases_eq k (length ss + 1))
 
-pub pushed : (ts : List Term) (ss : List Step) (n : ℕ) (old new : List ℕ) (a b high low : ℕ) (reason : Reason) → n < length ss → length ts ≤ 256
-    → Tabled ts old ss n → a < length ts → b < length ts → high ≡ max (cell old n a) (cell old n b) → low ≡ min (cell old n a) (cell old n b)
-    → ((j : ℕ) → j < 256 * (n + 1) → get_or new j 0 ≡ get_or old j 0)
-    → ((t : ℕ) → t < length ts → cell new (n + 1) t ≡ relabel high low (cell old n t))
-    → Pushed ts ss (set ss n record { left = a; right = b; high = high; low = low; reason = reason }) n new a b reason
-pushed ts ss n old new a b high low reason h few tabled ha hb hi lo kept each = record {
-  log = until_more ss n s h ∙ ap (λ (x : Step). x ∷ until ss n) is;
-  before = λ j j≤. until_set ss n s j j≤;
-  tabled = λ k t k≤ ht. ⊎_elim
-      (λ (q : k ≡ n + 1).
-      ap (λ (x : ℕ). cell new x t) q ∙ each t ht ∙ ap (relabel high low) (tabled n t (omega arith) ht)
-      ∙ sym (ap (λ (x : ℕ). label_at (set ss n s) x t) q ∙ ap (λ (l : List Step). label l t) (until_more ss n s h)))
-      (λ (q : k ≡ n + 1 → ⊥).
-      kept (256 * k + t) (omega arith) ∙ tabled k t (omega arith) ht ∙ ap (λ (l : List Step). label l t) (sym (until_set ss n s k (omega arith))))
-      (cases_eq k (n + 1));
-}
+-- a row of merges with one more
+pub record Pushed (ts : List Term) (ss rs : List Step) (rows : List (List ℕ)) (a b : ℕ) (reason : Reason) : Type 0 where
+  pub ran : Ran ss rs (merge (log ss) a b reason ∷ log ss)
+  pub formed : Formed ts (log rs)
+  pub tabled : Tabled rows rs
+  pub more : length rs ≡ length ss + 1
+
+pub pushed : (ts : List Term) (ss rs : List Step) (rows rows' : List (List ℕ)) (row : List ℕ) (a b high low : ℕ) (reason : Reason)
+    → rs ≡ ss ++ record { left = a; right = b; high = high; low = low; reason = reason } ∷ [] → rows' ≡ rows ++ row ∷ []
+    → Formed ts (log ss) → length rows ≡ length ss + 1 → Tabled rows ss → a < length ts → b < length ts
+    → (label (log ss) a ≡ label (log ss) b → ⊥) → RestsOn ts (λ p x y. Unit {0}) (label (log ss)) a b reason
+    → high ≡ max (label (log ss) a) (label (log ss) b) → low ≡ min (label (log ss) a) (label (log ss) b)
+    → ((t : ℕ) → t < 256 → get_or row t 0 ≡ relabel high low (cell rows (length ss) t))
+    → Pushed ts ss rs rows' a b reason
+pushed ts ss rs rows rows' row a b high low reason er ew formed long tabled ha hb apart rests hi lo each =
+    subst (λ (x : List Step). Pushed ts ss x rows' a b reason) (sym er) (subst (λ (x : List (List ℕ)). Pushed ts ss (ss ++ s ∷ []) x a b reason) (sym ew) (record {
+      ran = record { log_is = grown; before = until_push ss s; rise = omega (arith, length_push ss s) };
+      formed = subst (Formed ts) (sym grown) (merged ts (λ p x y. Unit {0}) (log ss) a b reason formed ha hb apart rests);
+      tabled = tabled_push rows ss row s long tabled each;
+      more = length_push ss s;
+    }))
   where
     s : Step
     s = record { left = a; right = b; high = high; low = low; reason = reason }
 
-    high_is : high ≡ max (label (until ss n) a) (label (until ss n) b)
-    high_is = omega (arith, hi, tabled n a (omega arith) ha, tabled n b (omega arith) hb)
+    grown : log (ss ++ s ∷ []) ≡ merge (log ss) a b reason ∷ log ss
+    grown = log_push ss s ∙ ap (λ (x : Step). x ∷ log ss)
+        (ap (λ (x : ℕ). record { left = a; right = b; high = x; low = low; reason = reason }) hi
+        ∙ ap (λ (x : ℕ). record { left = a; right = b; high = max (label (log ss) a) (label (log ss) b); low = x; reason = reason }) lo)
 
-    low_is : low ≡ min (label (until ss n) a) (label (until ss n) b)
-    low_is = omega (arith, lo, tabled n a (omega arith) ha, tabled n b (omega arith) hb)
+-- ---- fewer merges
 
-    is : record { left = a; right = b; high = high; low = low; reason = reason } ≡ merge (until ss n) a b reason
-    is = ap (λ (x : ℕ). record { left = a; right = b; high = x; low = low; reason = reason }) high_is
-        ∙ ap (λ (x : ℕ). record { left = a; right = b; high = max (label (until ss n) a) (label (until ss n) b); low = x; reason = reason }) low_is
+pub until_take : (ss : List Step) (k j : ℕ) → j ≤ k → until (take k ss) j ≡ until ss j
+until_take ss k zero h = refl
+until_take ss k (suc j) h =
+    ap (λ (x : Step). x ∷ until (take k ss) j) (get_or-take k ss j _ (omega arith)) ∙ ap (λ (xs : List Step). step_at ss j ∷ xs) (until_take ss k j (omega arith))
+
+-- a log that is formed is so up to each merge, and each merge is rightful
+pub formed_at : (ts : List Term) (ss : List Step) (n k : ℕ) → k < n → Formed ts (until ss n)
+    → Rightful ts (λ p a b. Unit {0}) (label_at ss k) (step_at ss k) × Formed ts (until ss k)
+formed_at ts ss zero k h f = absurd (omega arith)
+formed_at ts ss (suc n) k h f = ⊎_elim
+    (λ (e : k ≡ n). subst (λ (x : ℕ). Rightful ts (λ p a b. Unit {0}) (label_at ss x) (step_at ss x) × Formed ts (until ss x)) (sym e) f)
+    (λ (e : k ≡ n → ⊥). formed_at ts ss n k (omega arith) f.1)
+    (cases_eq k n)
+
+formed_upto : (ts : List Term) (ss : List Step) (k : ℕ) → k ≤ length ss → Formed ts (log ss) → Formed ts (until ss k)
+formed_upto ts ss k h f = ⊎_elim
+    (λ (e : k ≡ length ss). subst (λ (x : ℕ). Formed ts (until ss x)) (sym e) f)
+    (λ (e : k ≡ length ss → ⊥). (formed_at ts ss (length ss) k (omega arith) f).1)
+    (cases_eq k (length ss))
+
+-- a row of merges that was cut
+pub record Cut (ts : List Term) (ss rs : List Step) (rows : List (List ℕ)) (k : ℕ) : Type 0 where
+  pub before : (j : ℕ) → j ≤ k → until rs j ≡ until ss j
+  pub formed : Formed ts (log rs)
+  pub tabled : Tabled rows rs
+  pub long : length rs ≡ k
+  pub rows_long : length rows ≡ k + 1
+
+pub cut : (ts : List Term) (ss rs : List Step) (rows rows' : List (List ℕ)) (k : ℕ) → rs ≡ take k ss → rows' ≡ take (k + 1) rows → k ≤ length ss
+    → Formed ts (log ss) → length rows ≡ length ss + 1 → Tabled rows ss → Cut ts ss rs rows' k
+cut ts ss rs rows rows' k er ew h formed long tabled =
+    subst (λ (x : List Step). Cut ts ss x rows' k) (sym er) (subst (λ (x : List (List ℕ)). Cut ts ss (take k ss) x k) (sym ew) (record {
+      before = until_take ss k;
+      formed = subst (Formed ts) (sym (ap (until (take k ss)) left ∙ until_take ss k k (omega arith))) (formed_upto ts ss k h formed);
+      tabled = λ j t a few.
+          ap (λ (x : List ℕ). get_or x t 0) (get_or-take (k + 1) rows j [] (omega (arith, left))) ∙ tabled j t (omega (arith, left)) few
+          ∙ ap (λ (l : List Step). label l t) (sym (until_take ss k j (omega (arith, left))));
+      long = left;
+      rows_long = length-take-le (k + 1) rows (omega arith);
+    }))
+  where
+    left : length (take k ss) ≡ k
+    left = length-take-le k ss h
 
 -- ---- room
 
@@ -67,114 +117,64 @@ few_merges : (ts : List Term) (ss : List Step) (n : ℕ) → Formed ts (until ss
 few_merges ts ss zero f = omega (arith, roots_few (label []) (length ts))
 few_merges ts ss (suc n) f = omega (arith, few_merges ts ss n f.1, merge_falls ts (λ p a b. Unit {0}) (step_at ss n) (until ss n) f)
 
-pub merges_few : (ts : List Term) (ss : List Step) (n : ℕ) → Formed ts (until ss n) → n ≤ length ts
-merges_few ts ss n f = omega (arith, few_merges ts ss n f)
+pub merges_few : (ts : List Term) (ss : List Step) → Formed ts (log ss) → length ss ≤ length ts
+merges_few ts ss f = omega (arith, few_merges ts ss (length ss) f)
 
-pub merges_room : (ts : List Term) (ss : List Step) (n t : ℕ) → Formed ts (until ss n) → t < length ts → n < length ts
-merges_room ts ss n t f h =
+pub merges_room : (ts : List Term) (ss : List Step) (t : ℕ) → Formed ts (log ss) → t < length ts → length ss < length ts
+merges_room ts ss t f h =
     omega (
       arith,
-      few_merges ts ss n f,
-      roots_some (label (until ss n)) (length ts) (label (until ss n) t) (omega (arith, label_low ts (λ p a b. Unit {0}) (until ss n) f t)) (label_root ts (λ p a b. Unit {0}) (until ss n) f t),
-    )
-
--- where two labels differ, one more merge leaves a label
-pub merge_room : (ts : List Term) (ss : List Step) (n a b : ℕ) (reason : Reason) → Formed ts (until ss n) → a < length ts → b < length ts
-    → (label_at ss n a ≡ label_at ss n b → ⊥) → RestsOn ts (λ p x y. Unit {0}) (label_at ss n) a b reason → n + 1 < length ts
-merge_room ts ss n a b reason f ha hb ne r =
-    let m = merged ts (λ p x y. Unit {0}) (until ss n) a b reason f ha hb ne r in
-    let s : Step = merge (until ss n) a b reason in
-    omega (
-      arith,
-      few_merges ts ss n f,
-      merge_falls ts (λ p x y. Unit {0}) s (until ss n) m,
-      roots_some (label (s ∷ until ss n)) (length ts) (label (s ∷ until ss n) a)
-          (omega (arith, ha, label_low ts (λ p x y. Unit {0}) (s ∷ until ss n) m a)) (label_root ts (λ p x y. Unit {0}) (s ∷ until ss n) m a),
+      few_merges ts ss (length ss) f,
+      roots_some (label (log ss)) (length ts) (label (log ss) t) (omega (arith, label_low ts (λ p a b. Unit {0}) (log ss) f t)) (label_root ts (λ p a b. Unit {0}) (log ss) f t),
     )
 
 -- ---- growing
 
-pub ran_still : (ts : List Term) (ss : List Step) (n : ℕ) (rows : List ℕ) (log : List Step) → until ss n ≡ log → Ready ts ss n rows → Ran ts ss n ss n rows log
-ran_still ts ss n rows log e r = record { log_is = e; before = λ j h. refl; rise = omega arith; ready = r }
+pub ran_still : (ss : List Step) → Ran ss ss (log ss)
+ran_still ss = record { log_is = refl; before = λ j h. refl; rise = omega arith }
 
-pub ran_on : (ts : List Term) (ss rs qs : List Step) (from n to : ℕ) (mid_rows rows : List ℕ) (mid log : List Step)
-    → Ran ts ss from rs n mid_rows mid → Ran ts rs n qs to rows log → Ran ts ss from qs to rows log
-ran_on ts ss rs qs from n to mid_rows rows mid log x y = record {
+pub ran_on : (ss rs qs mid to : List Step) → Ran ss rs mid → Ran rs qs to → Ran ss qs to
+ran_on ss rs qs mid to x y = record {
   log_is = y.log_is;
   before = λ j h. y.before j (omega (arith, h, x.rise)) ∙ x.before j h;
   rise = omega (arith, x.rise, y.rise);
-  ready = y.ready;
 }
 
-pub ran_as : (ts : List Term) (ss rs : List Step) (from to : ℕ) (rows : List ℕ) (log gol : List Step) → log ≡ gol → Ran ts ss from rs to rows log → Ran ts ss from rs to rows gol
-ran_as ts ss rs from to rows log gol e x = subst (Ran ts ss from rs to rows) e x
-
--- one more merge, of two terms with different labels
-pub ran_merge : (ts : List Term) (ss rs : List Step) (n : ℕ) (old new : List ℕ) (a b : ℕ) (reason : Reason) → Ready ts ss n old → Pushed ts ss rs n new a b reason
-    → length rs ≡ length ss → length new ≡ length old → a < length ts → b < length ts
-    → (label_at ss n a ≡ label_at ss n b → ⊥) → RestsOn ts (λ p x y. Unit {0}) (label_at ss n) a b reason
-    → Ran ts ss n rs (n + 1) new (merge (until ss n) a b reason ∷ until ss n)
-ran_merge ts ss rs n old new a b reason r p sl rl ha hb ne rests = record {
-  log_is = p.log;
-  before = p.before;
-  rise = omega arith;
-  ready = record {
-    formed = subst (Formed ts) (sym p.log) (merged ts (λ p x y. Unit {0}) (until ss n) a b reason r.formed ha hb ne rests);
-    tabled = p.tabled;
-    steps_long = sl ∙ r.steps_long;
-    rows_long = rl ∙ r.rows_long;
-  };
-}
-
--- ---- twins, by the table of labels
-
-pub twin_by_log : (ts : List Term) (ss : List Step) (n t : ℕ) (rows : List ℕ) (o : Option ℕ) → Lower ts → Tabled ts rows ss n → t < length ts
-    → o ≡ twin ts (cell rows n) t → twin ts (label_at ss n) t ≡ o
-twin_by_log ts ss n t rows o lower tabled ht e = sym (twins_same ts (cell rows n) (label_at ss n) t lower ht (λ x hx. tabled n x (omega arith) hx)) ∙ sym e
-
-pub pass_none : (ts : List Term) (t : ℕ) (log : List Step) → twin ts (label log) t ≡ None → log ≡ pass ts t log
-pass_none ts t log e = sym (ap (merge_on log t) e)
-
-pub pass_some : (ts : List Term) (t u : ℕ) (log : List Step) → twin ts (label log) t ≡ Some u → merge log t u Congruence ∷ log ≡ pass ts t log
-pass_some ts t u log e = sym (ap (merge_on log t) e)
-
--- ---- sweeps
-
-pub sweep_none : (ts : List Term) (log : List Step) → log ≡ sweep ts 0 log
+pub sweep_none : (ts : List Term) (ss : List Step) → Ran ss ss (sweep ts 0 (log ss))
 unfolding sweep
-sweep_none ts log = refl
+sweep_none ts ss = ran_still ss
 
-pub sweep_more : (ts : List Term) (t : ℕ) (log mid : List Step) → mid ≡ sweep ts t log → pass ts t mid ≡ sweep ts (t + 1) log
+pub sweep_more : (ts us : List Term) (t : ℕ) (ss rs qs : List Step) → us ≡ ts → Ran ss rs (sweep ts t (log ss)) → Ran rs qs (pass us t (log rs)) → Ran ss qs (sweep ts (t + 1) (log ss))
 unfolding sweep
-sweep_more ts t log mid e = ap (pass ts t) e ∙ ap (λ (k : ℕ). sweep ts k log) (sym (add-one t))
+sweep_more ts us t ss rs qs e x y =
+    subst (Ran ss qs) (ap (λ (vs : List Term). pass vs t (log rs)) e ∙ ap (pass ts t) x.log_is ∙ ap (λ (k : ℕ). sweep ts k (log ss)) (sym (add-one t)))
+    (ran_on ss rs qs _ _ x y)
 
-pub settle_end : (ts : List Term) (log : List Step) → settle ts 0 log ≡ log
+-- what is left to settle comes to the same
+pub record Settling (ts : List Term) (left : ℕ) (ss rs : List Step) : Type 0 where
+  pub ran : Ran ss rs (log rs)
+  pub same : settle ts (length ts) (log ss) ≡ settle ts left (log rs)
+
+pub settle_start : (ts : List Term) (left : ℕ) (ss : List Step) → left ≡ length ts → Settling ts left ss ss
+settle_start ts left ss e = record { ran = ran_still ss; same = ap (λ (k : ℕ). settle ts k (log ss)) (sym e) }
+
+pub settle_more : (ts us : List Term) (left now : ℕ) (ss rs qs : List Step) → us ≡ ts → left ≡ now + 1 → Settling ts left ss rs → Ran rs qs (sweep us (length us) (log rs)) → Settling ts now ss qs
 unfolding settle
-settle_end ts log = refl
+settle_more ts us left now ss rs qs e n x y =
+    let z : Ran rs qs (sweep ts (length ts) (log rs)) = subst (λ (vs : List Term). Ran rs qs (sweep vs (length vs) (log rs))) e y in
+    record {
+      ran = ran_on ss rs qs _ _ x.ran (subst (Ran rs qs) (sym z.log_is) z);
+      same = x.same ∙ ap (λ (k : ℕ). settle ts k (log rs)) (n ∙ add-one now) ∙ ap (settle ts now) (sym z.log_is);
+    }
 
-pub settle_more : (ts : List Term) (k : ℕ) (log : List Step) → 0 < k → settle ts k log ≡ settle ts (k - 1) (sweep ts (length ts) log)
+-- a sweep that merged nothing left the log
+pub settle_still_by : (ts us : List Term) (left : ℕ) (ss rs qs : List Step) → us ≡ ts → length qs ≡ length rs → Settling ts left ss rs → Ran rs qs (sweep us (length us) (log rs))
+    → Ran ss qs (settle ts (length ts) (log ss))
+settle_still_by ts us left ss rs qs e n x y =
+    let z : Ran rs qs (sweep ts (length ts) (log rs)) = subst (λ (vs : List Term). Ran rs qs (sweep vs (length vs) (log rs))) e y in
+    let still : log qs ≡ log rs = ap (until qs) n ∙ z.before (length rs) (omega arith) in
+    subst (Ran ss qs) (still ∙ sym (x.same ∙ settle_still ts left (log rs) (sym z.log_is ∙ still))) (ran_on ss rs qs _ _ x.ran (subst (Ran rs qs) (sym z.log_is) z))
+
+pub settle_end : (ts : List Term) (left : ℕ) (ss rs : List Step) → left ≡ 0 → Settling ts left ss rs → Ran ss rs (settle ts (length ts) (log ss))
 unfolding settle
-settle_more ts zero log h = absurd (omega arith)
-settle_more ts (suc k) log h = ap (λ (j : ℕ). settle ts j (sweep ts (length ts) log)) (let e : k ≡ suc k - 1 = omega arith in e)
-
--- ---- one more literal
-
-pub absorb_odd : (ts : List Term) (claims : List Claim) (p l : ℕ) (log : List Step) → (l % 2 ≡ 0 → ⊥) → log ≡ absorb ts claims p l log
-absorb_odd ts claims p l log n = sym (cond-false (eqb (l % 2) 0) (join ts (pair_of claims l).left (pair_of claims l).right (Asserted p) log) log (ne_eqb (l % 2) 0 n))
-
-absorb_even : (ts : List Term) (claims : List Claim) (p l : ℕ) (log : List Step) → l % 2 ≡ 0
-    → absorb ts claims p l log ≡ join ts (pair_of claims l).left (pair_of claims l).right (Asserted p) log
-absorb_even ts claims p l log e = cond-true (eqb (l % 2) 0) (join ts (pair_of claims l).left (pair_of claims l).right (Asserted p) log) log (eq-eqb (l % 2) 0 e)
-
-pub absorb_same : (ts : List Term) (claims : List Claim) (p l : ℕ) (log : List Step) → l % 2 ≡ 0
-    → label log (pair_of claims l).left ≡ label log (pair_of claims l).right → log ≡ absorb ts claims p l log
-absorb_same ts claims p l log e q =
-    sym (absorb_even ts claims p l log e
-    ∙ cond-true (eqb (label log (pair_of claims l).left) (label log (pair_of claims l).right)) log _ (eq-eqb _ _ q))
-
-pub absorb_new : (ts : List Term) (claims : List Claim) (p l : ℕ) (log : List Step) → l % 2 ≡ 0
-    → (label log (pair_of claims l).left ≡ label log (pair_of claims l).right → ⊥)
-    → settle ts (length ts) (merge log (pair_of claims l).left (pair_of claims l).right (Asserted p) ∷ log) ≡ absorb ts claims p l log
-absorb_new ts claims p l log e q =
-    sym (absorb_even ts claims p l log e
-    ∙ cond-false (eqb (label log (pair_of claims l).left) (label log (pair_of claims l).right)) log _ (ne_eqb _ _ q))
+settle_end ts left ss rs e x = subst (Ran ss rs) (sym (x.same ∙ ap (λ (k : ℕ). settle ts k (log rs)) e)) x.ran

@@ -2,6 +2,7 @@ pub mod Nearest
 pub mod Twins
 pub mod Growing
 pub mod Marking
-pub mod Listing
+pub mod Joining
 pub mod Asking
+pub mod Writing
 pub mod Holding

@@ -9,9 +9,9 @@ use Rattle.theory.specs.Terms.{at}
 use Rattle.congruence.specs.Table.{arg}
 use Rattle.congruence.specs.Congruence.{Congruent}
 use Rattle.congruence.specs.Merges.{relabel, label, any_below, rests, crosses, needed}
-use Rattle.congruence.specs.Log.{RestsOn, Rightful, Formed}
+use Rattle.congruence.specs.Log.{RestsOn, Rightful}
 use Rattle.congruence.proofs.Explaining.{met, across, crossed}
-use Rattle.equality.specs.Logs.{step_at, until, label_at, cell, Tabled}
+use Rattle.equality.specs.Logs.{step_at, until, label_at}
 use Rattle.equality.specs.Marked.{Joins, Sides, Covered, basis, Whole, Grown}
 
 -- ---- labels, one merge on
@@ -19,32 +19,9 @@ use Rattle.equality.specs.Marked.{Joins, Sides, Covered, basis, Whole, Grown}
 label_more : (ss : List Step) (k t : ℕ) → label_at ss (k + 1) t ≡ relabel (step_at ss k).high (step_at ss k).low (label_at ss k t)
 label_more ss k t = ap (λ (n : ℕ). label_at ss n t) (add-one k)
 
--- a log that is formed is so up to each merge
-pub formed_at : (ts : List Term) (ss : List Step) (n k : ℕ) → k < n → Formed ts (until ss n)
-    → Rightful ts (λ p a b. Unit {0}) (label_at ss k) (step_at ss k) × Formed ts (until ss k)
-formed_at ts ss zero k h f = absurd (omega arith)
-formed_at ts ss (suc n) k h f = ⊎_elim
-    (λ (e : k ≡ n). subst (λ (x : ℕ). Rightful ts (λ p a b. Unit {0}) (label_at ss x) (step_at ss x) × Formed ts (until ss x)) (sym e) f)
-    (λ (e : k ≡ n → ⊥). formed_at ts ss n k (omega arith) f.1)
-    (cases_eq k n)
-
-pub formed_more : (ts : List Term) (ss : List Step) (n k : ℕ) → k < n → Formed ts (until ss n) → Formed ts (until ss (k + 1))
-formed_more ts ss n k h f = subst (λ (x : ℕ). Formed ts (until ss x)) (sym (add-one k)) (formed_at ts ss n k h f)
-
--- the merge at which two terms met, by the table of labels
-pub joins_by : (ts : List Term) (ss : List Step) (rows : List ℕ) (t u k n : ℕ) → k < n → Tabled ts rows ss n → t < length ts → u < length ts
-    → (cell rows k t ≡ cell rows k u → ⊥) → cell rows (k + 1) t ≡ cell rows (k + 1) u → Joins ss t u k
-joins_by ts ss rows t u k n h tabled ht hu a b = record {
-  apart = λ e. a (tabled k t (omega arith) ht ∙ e ∙ sym (tabled k u (omega arith) hu));
-  together = sym (tabled (k + 1) t (omega arith) ht) ∙ b ∙ tabled (k + 1) u (omega arith) hu;
-}
-
 -- ---- the ends of a merge
 
-module _ (ts : List Term) (ss : List Step) (t u k : ℕ) (j : Joins ss t u k) (f : Formed ts (until ss (k + 1))) where
-  here : Rightful ts (λ p a b. Unit {0}) (label_at ss k) (step_at ss k)
-  here = (formed_at ts ss (k + 1) k (omega arith) f).0
-
+module _ (ts : List Term) (ss : List Step) (t u k : ℕ) (j : Joins ss t u k) (here : Rightful ts (λ p a b. Unit {0}) (label_at ss k) (step_at ss k)) where
   pub sides_same : label_at ss k t ≡ label_at ss k (step_at ss k).left
       → Sides ts ss t u k record { near = (step_at ss k).left; far = (step_at ss k).right }
   sides_same q = record {
@@ -78,7 +55,7 @@ needed_none ts (s ∷ older) p t =
     cond-true (eqb (label older t) (label older t)) (needed ts older p t t) _ (eq-eqb (label older t) (label older t) refl) ∙ needed_none ts older p t
 
 -- two terms of one class stay so
-stay : (ss : List Step) (t u k n : ℕ) → k ≤ n → label_at ss k t ≡ label_at ss k u → label_at ss n t ≡ label_at ss n u
+pub stay : (ss : List Step) (t u k n : ℕ) → k ≤ n → label_at ss k t ≡ label_at ss k u → label_at ss n t ≡ label_at ss n u
 stay ss t u k zero h e = subst (λ (x : ℕ). label_at ss x t ≡ label_at ss x u) (let z : k ≡ 0 = omega arith in z) e
 stay ss t u k (suc n) h e = ⊎_elim
     (λ (q : k ≡ suc n). subst (λ (x : ℕ). label_at ss x t ≡ label_at ss x u) q e)

@@ -1,11 +1,12 @@
 -- Searches from above, and the nearest earlier term with one head. Assumes nothing.
-use Rattle.std.proofs.Common.{◌≡◌, ℕ, zero, suc, ◌+◌, ◌-◌, ◌<◌, ◌≤◌, true, false, eqb, List, Some, None, Option, unwrap_or, sym, refl, ap, ◌∙◌, subst, ⊎_elim, add-one, arith}
+use Rattle.std.proofs.Common.{◌≡◌, ℕ, zero, suc, ◌+◌, ◌<◌, ◌≤◌, true, false, eqb, List, length, take, Some, None, Option, sym, refl, ap, ◌∙◌, subst, ⊎_elim, add-one, arith, get_or-take}
 use Rattle.std.proofs.lemmas.Bool.{cases_eq, eq-eqb, eqb-true, and_parts, and_from}
+use Rattle.std.proofs.lemmas.List.{length-take-le}
 use Rattle.theory.specs.declared.term.Term.{Term}
 use Rattle.theory.specs.Terms.{at}
 use Rattle.congruence.specs.Merges.{when, or_else, last}
 use Rattle.congruence.proofs.Searches.{last_not_found, when_some, when_none}
-use Rattle.equality.specs.Index.{SameHead, same_head, nearest}
+use Rattle.equality.specs.Index.{SameHead, same_head, LastLike, nearest}
 
 -- nothing is found from `k` on
 pub last_skip : {A : Type 0} (n k : ℕ) (f : ℕ → Option A) → k ≤ n → ((w : ℕ) → k ≤ w → w < n → f w ≡ None) → last n f ≡ last k f
@@ -28,11 +29,6 @@ pub last_past : {A : Type 0} (n : ℕ) (f : ℕ → Option A) → f n ≡ None �
 unfolding last
 last_past n f e = ap (λ (k : ℕ). last k f) (add-one n) ∙ ap (λ o. or_else o (last n f)) e
 
-pub last_same : {A : Type 0} (n : ℕ) (f g : ℕ → Option A) → ((k : ℕ) → k < n → f k ≡ g k) → last n f ≡ last n g
-unfolding last
-last_same zero f g h = refl
-last_same (suc n) f g h = ap (λ o. or_else o (last n f)) (h n (omega arith)) ∙ ap (or_else (g n)) (last_same n f g (λ k l. h k (omega arith)))
-
 -- what is found, with nothing above it
 last_top : {A : Type 0} (n : ℕ) (f : ℕ → Option A) (x : A) → last n f ≡ Some x
     → (k : ℕ) × (k < n) × (f k ≡ Some x) × ((w : ℕ) → k < w → w < n → f w ≡ None)
@@ -49,58 +45,63 @@ last_top {A} (suc n) f x e = go (last_top n f x) (f n) refl e
 
 -- ---- heads
 
-pub head_true : (ts : List Term) (t u : ℕ) → same_head ts t u ≡ true → SameHead ts t u
+abbrev heads : List Term → ℕ → ℕ → Option ℕ
+heads ts t u = when (same_head (at ts t) (at ts u)) u
+
+head_true : (ts : List Term) (t u : ℕ) → same_head (at ts t) (at ts u) ≡ true → SameHead ts t u
 head_true ts t u e =
     let x = and_parts (eqb (at ts t).symbol (at ts u).symbol) (eqb (at ts t).arity (at ts u).arity) e in
     (eqb-true (at ts t).symbol (at ts u).symbol x.0, eqb-true (at ts t).arity (at ts u).arity x.1)
 
-head_from : (ts : List Term) (t u : ℕ) → SameHead ts t u → same_head ts t u ≡ true
+head_from : (ts : List Term) (t u : ℕ) → SameHead ts t u → same_head (at ts t) (at ts u) ≡ true
 head_from ts t u (s, a) = and_from _ _ (eq-eqb (at ts t).symbol (at ts u).symbol s) (eq-eqb (at ts t).arity (at ts u).arity a)
 
--- what the nearest term is
-pub record Near (ts : List Term) (t r : ℕ) : Type 0 where
-  pub low : r ≤ t
-  pub head : SameHead ts t r
-  pub between : (w : ℕ) → r < w → w < t → SameHead ts t w → ⊥
-  pub none : r ≡ t → (w : ℕ) → w < t → SameHead ts t w → ⊥
+other : (ts : List Term) (t w : ℕ) → heads ts t w ≡ None → SameHead ts t w → ⊥
+other ts t w e h = let z : true ≡ false = sym (head_from ts t w h) ∙ when_none (same_head (at ts t) (at ts w)) w e in let y : ◌≡◌ {A = ℕ} 0 1 = cc in omega arith
 
-pub nearest_is : (ts : List Term) (t : ℕ) → Near ts t (nearest ts t)
-nearest_is ts t = go (last t (λ u. when (same_head ts t u) u)) refl
+-- where a search stands that has found a term, and has yet to look at those below it
+abbrev pub left : Option ℕ → ℕ
+left None = 0
+left (Some u) = u + 1
+
+-- a found term is earlier and has the head
+abbrev pub Found : List Term → ℕ → Option ℕ → Type 0
+Found ts t o = (u : ℕ) → o ≡ Some u → (u < t) × SameHead ts t u
+
+pub nearest_found : (ts : List Term) (t : ℕ) → Found ts t (nearest ts t)
+nearest_found ts t u e =
+    let r = last_top t (heads ts t) u e in
+    let x = when_some (same_head (at ts t) (at ts r.0)) r.0 u r.2 in
+    subst (λ (k : ℕ). (k < t) × SameHead ts t k) x.1 (r.1, head_true ts t r.0 x.0)
+
+-- the terms above it have other heads
+nearest_above : (ts : List Term) (t : ℕ) (o : Option ℕ) → nearest ts t ≡ o → (left o ≤ t) × ((w : ℕ) → left o ≤ w → w < t → SameHead ts t w → ⊥)
+nearest_above ts t None e = (omega arith, λ w a b. other ts t w (last_not_found t (heads ts t) e w b))
+nearest_above ts t (Some u) e =
+    let r = last_top t (heads ts t) u e in
+    let x = when_some (same_head (at ts t) (at ts r.0)) r.0 u r.2 in
+    (omega (arith, r.1, x.1), λ w a b. other ts t w (r.3 w (omega (arith, x.1)) b))
+
+pub above : (ts : List Term) (t : ℕ) → (left (nearest ts t) ≤ t) × ((w : ℕ) → left (nearest ts t) ≤ w → w < t → SameHead ts t w → ⊥)
+above ts t = nearest_above ts t (nearest ts t) refl
+
+-- ---- the search for it
+
+pub last_found : (ts : List Term) (t : ℕ) (own : Term) (o : Option ℕ) → own ≡ at ts t → t < length ts → LastLike (take t ts) own o → o ≡ nearest ts t
+last_found ts t own o e h m = go o (subst (λ (x : Term). LastLike (take t ts) x o) e m)
   where
-    other : (w : ℕ) → when (same_head ts t w) w ≡ None → SameHead ts t w → ⊥
-    other w e h = let z : true ≡ false = sym (head_from ts t w h) ∙ when_none (same_head ts t w) w e in let y : ◌≡◌ {A = ℕ} 0 1 = cc in omega arith
+    size : length (take t ts) ≡ t
+    size = length-take-le t ts (omega arith)
 
-    go : (o : Option ℕ) → last t (λ u. when (same_head ts t u) u) ≡ o → Near ts t (unwrap_or o t)
-    go None e = record {
-      low = omega arith;
-      head = (refl, refl);
-      between = λ w a b h. absurd (omega arith);
-      none = λ q w b h. other w (last_not_found t (λ u. when (same_head ts t u) u) e w b) h;
-    }
-    go (Some u) e =
-        let r = last_top t (λ u. when (same_head ts t u) u) u e in
-        let x = when_some (same_head ts t r.0) r.0 u r.2 in
-        subst (Near ts t) x.1 (record {
-          low = omega (arith, r.1);
-          head = head_true ts t r.0 x.0;
-          between = λ w a b h. other w (r.3 w a b) h;
-          none = λ q w b h. absurd (omega (arith, r.1));
-        })
+    here : (w : ℕ) → w < t → same_head (at ts t) (at (take t ts) w) ≡ same_head (at ts t) (at ts w)
+    here w a = ap (same_head (at ts t)) (get_or-take t ts w _ a)
 
--- ---- the search for it, downward
+    miss : (w : ℕ) → w < t → same_head (at ts t) (at (take t ts) w) ≡ false → heads ts t w ≡ None
+    miss w a e = ap (λ b. when b w) (sym (here w a) ∙ e)
 
-pub nearest_hit : (ts : List Term) (t u : ℕ) → 0 < u → last t (λ x. when (same_head ts t x) x) ≡ last u (λ x. when (same_head ts t x) x)
-    → same_head ts t (u - 1) ≡ true → u - 1 ≡ nearest ts t
-nearest_hit ts t u h e k =
-    sym (ap (λ o. unwrap_or o t) (e ∙ ap (λ (n : ℕ). last n (λ x. when (same_head ts t x) x)) (let z : u ≡ (u - 1) + 1 = omega arith in z)
-    ∙ last_here (u - 1) (λ x. when (same_head ts t x) x) (u - 1) (ap (λ b. when b (u - 1)) k)))
-
-pub nearest_past : (ts : List Term) (t u : ℕ) → 0 < u → same_head ts t (u - 1) ≡ false
-    → last u (λ x. when (same_head ts t x) x) ≡ last (u - 1) (λ x. when (same_head ts t x) x)
-nearest_past ts t u h k =
-    ap (λ (n : ℕ). last n (λ x. when (same_head ts t x) x)) (let z : u ≡ (u - 1) + 1 = omega arith in z)
-    ∙ last_past (u - 1) (λ x. when (same_head ts t x) x) (ap (λ b. when b (u - 1)) k)
-
-pub nearest_none : (ts : List Term) (t u : ℕ) → u ≤ 0 → last t (λ x. when (same_head ts t x) x) ≡ last u (λ x. when (same_head ts t x) x) → t ≡ nearest ts t
-nearest_none ts t u h e =
-    sym (ap (λ o. unwrap_or o t) (e ∙ ap (λ (n : ℕ). last n (λ x. when (same_head ts t x) x)) (let z : u ≡ 0 = omega arith in z) ∙ last_none (λ x. when (same_head ts t x) x)))
+    go : (o : Option ℕ) → LastLike (take t ts) (at ts t) o → o ≡ nearest ts t
+    go None m = sym (last_skip t 0 (heads ts t) (omega arith) (λ w a b. miss w b (m w (omega (arith, size)))) ∙ last_none (heads ts t))
+    go (Some u) m =
+        let low : u < t = omega (arith, m.0, size) in
+        sym (last_skip t (u + 1) (heads ts t) (omega arith) (λ w a b. miss w b (m.2 w (omega arith) (omega (arith, size))))
+        ∙ last_here u (heads ts t) u (ap (λ b. when b u) (sym (here u low) ∙ m.1)))

@@ -1,5 +1,5 @@
 -- What making a theory of equality gives. Assumes nothing.
-use Rattle.std.specs.Prelude.{◌≡◌, List, Result}
+use Rattle.std.specs.Prelude.{◌≡◌, List, [], Result}
 use Rattle.theory.specs.declared.refusal.Unmade.{Unmade}
 use Rattle.theory.specs.declared.term.Term.{Term}
 use Rattle.theory.specs.Made.{Making}
@@ -10,9 +10,9 @@ use Rattle.equality.specs.Checks.{Sound, Barred}
 
 -- a theory of just these terms and claims, with nothing asserted, of which all that is proved of equality stands
 pub record New (ts : List Term) (claims : List Claim) (e : Equality) : Type 0 where
-  pub terms_are : e.terms.records.now ≡ ts
+  pub terms_are : e.closure.terms.records.now ≡ ts
   pub claims_are : e.claims.now ≡ claims
-  pub nothing : e.len ≡ 0
+  pub nothing : e.list.items ≡ []
   pub stands : Standing ts claims
 
 -- sound records give a theory, or find no memory; others are refused

@@ -1,13 +1,22 @@
 //! What records a theory may be made of.
 ghost use Rattle.std.specs.Prelude.{ℕ, ◌<◌, ◌≤◌, length, Decides, MatchResult};
 ghost use Rattle.theory.specs.Terms.{Arities};
-ghost use Rattle.congruence.specs.Table.{Lower};
-ghost use Rattle.congruence.specs.Equality.{Named};
+ghost use Rattle.congruence.specs.Table.{arg, Lower};
 ghost use Rattle.equality.specs.Checks.{Sound, Barred};
 
 use congruence::Claim;
 use theory::term::within_limits;
 use theory::{Refusal, Term};
+
+/// Whether the arguments of a term are lower than `k`.
+fn arguments_below(t: &Term, k: usize) -> bool
+    requires { t.now.arity ≤ 2 }
+    ensures { Decides result ((i : ℕ) → i < t.now.arity → arg t.now i < k) }
+{
+    t.args[..usize::from(t.arity)]
+        .iter()
+        .all(|a| usize::from(*a) < k)
+}
 
 /// Whether each argument is lower than its own term.
 fn lower_arguments(terms: &[Term]) -> bool
@@ -15,22 +24,7 @@ fn lower_arguments(terms: &[Term]) -> bool
     ensures { Decides result (Lower terms.now) }
 {
     for (k, t) in terms.iter().enumerate() {
-        if t.arity > 0 && t.args[0] as usize >= k {
-            return false;
-        }
-        if t.arity > 1 && t.args[1] as usize >= k {
-            return false;
-        }
-    }
-    true
-}
-
-/// Whether each claim names two terms.
-fn named_terms(terms: &[Term], claims: &[Claim]) -> bool
-    ensures { Decides result (Named terms.now claims.now) }
-{
-    for c in claims {
-        if c.left as usize >= terms.len() || c.right as usize >= terms.len() {
+        if !arguments_below(t, k) {
             return false;
         }
     }
@@ -47,7 +41,11 @@ pub(crate) fn check(terms: &[Term], claims: &[Claim]) -> Result<(), Refusal>
     if !lower_arguments(terms) {
         return Err(Refusal::ArgumentNotLower);
     }
-    if !named_terms(terms, claims) {
+    let m = terms.len();
+    if !claims
+        .iter()
+        .all(|c| usize::from(c.left) < m && usize::from(c.right) < m)
+    {
         return Err(Refusal::NoSuchTerm);
     }
     Ok(())

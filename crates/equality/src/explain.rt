@@ -1,13 +1,11 @@
 //! Explaining from the log of merges: which merges join two terms.
-ghost use Rattle.std.specs.Prelude.{◌≡◌, ℕ, ◌+◌, ◌*◌, ◌<◌, ◌≤◌, length, ◌≢◌};
+ghost use Rattle.std.specs.Prelude.{◌≡◌, ℕ, ◌<◌, ◌≤◌, length, ◌≢◌};
 ghost use Rattle.congruence.specs.Merges.{needed};
-ghost use Rattle.congruence.specs.Log.{Formed};
-ghost use Rattle.equality.specs.Logs.{until, label_at, cell, Tabled};
+ghost use Rattle.equality.specs.Logs.{until, label_at};
 ghost use Rattle.equality.specs.Marked.{Joins, Sides, Whole, Grown};
 
-use crate::closure::label;
-use crate::terms::Terms;
-use congruence::{Reason, Step};
+use crate::closure::Closure;
+use congruence::Reason;
 
 /// The two ends of a merge between two terms: the one on the near side, and the one on the far side.
 #[derive(Clone, Copy)]
@@ -16,100 +14,78 @@ pub(crate) struct Ends {
     pub(crate) far: u16,
 }
 
-/// The merge at which two terms came into one class, by halving.
-fn joining(rows: &[u16], t: u16, u: u16, upto: usize) -> usize
-    requires room { (upto < 256) × (256 * (upto + 1) ≤ length rows.now) }
-    requires terms { (t < 256) × (u < 256) }
-    requires apart { cell rows.now 0 t ≢ cell rows.now 0 u }
-    requires together { cell rows.now upto t ≡ cell rows.now upto u }
-    ensures { (result < upto) × (((cell rows.now result t ≢ cell rows.now result u)) × (cell rows.now (result + 1) t ≡ cell rows.now (result + 1) u)) }
-{
-    let mut low = 0;
-    let mut high = upto;
-    while low + 1 < high {
-        let k = (low + high) / 2;
-        if label(rows, k, t) == label(rows, k, u) {
-            high = k;
-        } else {
-            low = k;
-        }
+impl Closure<'_> {
+    /// The merge at which two terms came into one class, by halving.
+    fn joining(&self, t: u16, u: u16, upto: usize) -> usize
+        requires upto { upto ≤ length self.now.steps.items }
+        requires near { t < 256 }
+        requires far { u < 256 }
+        requires apart { t ≢ u }
+        requires together { label_at self.now.steps.items upto t ≡ label_at self.now.steps.items upto u }
+        ensures below { result < upto }
+        ensures joins { Joins self.now.steps.items t u result }
+    {
+        let t = usize::from(t);
+        let u = usize::from(u);
+        self.rows[1..=upto].partition_point(|row| row[t] != row[u])
     }
-    low
-}
 
-/// The ends of merge number `k`, in the order in which they lie between `t` and `u`.
-fn sides(terms: &Terms, steps: &[Step], rows: &[u16], t: u16, u: u16, k: usize) -> Ends
-    requires room { (k < 256) × ((256 * (k + 1) ≤ length rows.now) × (length steps.now ≡ 256)) }
-    requires near { t < length terms.now.records.now }
-    requires joins { Joins steps.now t u k }
-    requires formed { Formed terms.now.records.now (until steps.now (k + 1)) }
-    requires tabled { Tabled terms.now.records.now rows.now steps.now k }
-    ensures { Sides terms.now.records.now steps.now t u k result }
-{
-    let s = steps[k];
-    if label(rows, k, t) == label(rows, k, s.left) {
-        Ends {
-            near: s.left,
-            far: s.right,
-        }
-    } else {
-        Ends {
-            near: s.right,
-            far: s.left,
-        }
-    }
-}
-
-/// Marks merges that join `t` and `u`, each with those that it rests on.
-pub(crate) fn explain(
-    terms: &Terms,
-    steps: &[Step],
-    rows: &[u16],
-    marks: &mut [bool],
-    t: u16,
-    u: u16,
-    upto: usize,
-)
-    requires formed { Formed terms.now.records.now (until steps.now upto) }
-    requires tabled { Tabled terms.now.records.now rows.now steps.now upto }
-    requires long { (length steps.now ≡ 256) × ((length marks.old ≡ 256) × (length rows.now ≡ 256 * length terms.now.records.now)) }
-    requires near { t < length terms.now.records.now }
-    requires far { u < length terms.now.records.now }
-    requires together { label_at steps.now upto t ≡ label_at steps.now upto u }
-    requires whole { Whole terms.now.records.now steps.now marks.old }
-    ensures { Grown terms.now.records.now steps.now marks.old marks.new
-        (λ p. needed terms.now.records.now (until steps.now upto) p t u) }
-{
-    if t == u {
-        return;
-    }
-    let k = joining(rows, t, u, upto);
-    let by = sides(terms, steps, rows, t, u, k);
-    explain(terms, steps, rows, marks, t, by.near, k);
-    explain(terms, steps, rows, marks, by.far, u, k);
-    if marks[k] {
-        return;
-    }
-    let s = steps[k];
-    match s.reason {
-        Reason::Asserted(_) => {
-            marks[k] = true;
-        }
-        Reason::Congruence => {
-            let x = terms.records[s.left as usize];
-            let y = terms.records[s.right as usize];
-            for i in 0..x.arity {
-                explain(
-                    terms,
-                    steps,
-                    rows,
-                    marks,
-                    x.args[i as usize],
-                    y.args[i as usize],
-                    k,
-                );
+    /// The ends of merge number `k`, in the order in which they lie between `t` and `u`.
+    fn sides(&self, t: u16, u: u16, k: usize) -> Ends
+        requires merge { k < length self.now.steps.items }
+        requires near { t < length self.now.terms.records.now }
+        requires joins { Joins self.now.steps.items t u k }
+        ensures { Sides self.now.terms.records.now self.now.steps.items t u k result }
+    {
+        let s = self.steps[k];
+        if self.label(k, t) == self.label(k, s.left) {
+            Ends {
+                near: s.left,
+                far: s.right,
             }
-            marks[k] = true;
+        } else {
+            Ends {
+                near: s.right,
+                far: s.left,
+            }
+        }
+    }
+
+    /// Marks merges that join `t` and `u`, each with those that it rests on.
+    pub(crate) fn explain(&self, marks: &mut [bool], t: u16, u: u16, upto: usize)
+        requires upto { upto ≤ length self.now.steps.items }
+        requires long { length self.now.steps.items ≤ length marks.old }
+        requires near { t < length self.now.terms.records.now }
+        requires far { u < length self.now.terms.records.now }
+        requires together { label_at self.now.steps.items upto t ≡ label_at self.now.steps.items upto u }
+        requires whole { Whole self.now.terms.records.now self.now.steps.items marks.old }
+        ensures { Grown self.now.terms.records.now self.now.steps.items marks.old marks.new
+            (λ p. needed self.now.terms.records.now (until self.now.steps.items upto) p t u) }
+    {
+        if t == u {
+            return;
+        }
+        let k = self.joining(t, u, upto);
+        let by = self.sides(t, u, k);
+        self.explain(marks, t, by.near, k);
+        self.explain(marks, by.far, u, k);
+        if marks[k] {
+            return;
+        }
+        let s = self.steps[k];
+        match s.reason {
+            Reason::Asserted(_) => {
+                marks[k] = true;
+            }
+            Reason::Congruence => {
+                let x = self.terms.records[usize::from(s.left)];
+                let y = self.terms.records[usize::from(s.right)];
+                // No plainer as `x.args.iter().zip(&y.args).take(usize::from(x.arity))`.
+                for i in 0..usize::from(x.arity) {
+                    self.explain(marks, x.args[i], y.args[i], k);
+                }
+                marks[k] = true;
+            }
         }
     }
 }

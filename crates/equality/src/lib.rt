@@ -4,7 +4,6 @@
 pub(crate) mod check;
 pub(crate) mod closure;
 pub(crate) mod explain;
-pub(crate) mod index;
 pub(crate) mod marks;
 pub(crate) mod query;
 pub mod state;

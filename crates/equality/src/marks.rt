@@ -8,11 +8,10 @@ pub(crate) struct Marks<'a> {
 
 impl Drop for Marks<'_> {
     fn drop(self)
-        ensures { (length self.exit.0.now ≡ length self.entry.table.now) × (((k : ℕ) → slice_index_or self.exit.0.now k false ≡ false)) }
+        ensures long { length self.exit.0.now ≡ length self.entry.table.now }
+        ensures clear { (k : ℕ) → slice_index_or self.exit.0.now k false ≡ false }
     {
-        for m in self.table.iter_mut() {
-            *m = false;
-        }
-        let Marks { table: _ } = self;
+        let Marks { table } = self;
+        table.fill(false);
     }
 }

@@ -1,12 +1,10 @@
 //! Equality as a theory.
-ghost use Rattle.std.specs.Prelude.{ℕ, List, length, take};
+ghost use Rattle.std.specs.Prelude.{ℕ, List, length};
 ghost use Rattle.theory.specs.declared.term.Term.{Term};
 ghost use Rattle.congruence.specs.declared.claim.Claim.{Claim};
 ghost use Rattle.congruence.specs.Equality.{equality};
 ghost use Rattle.congruence.proofs.Law.{stands};
 
-use crate::closure::absorb;
-use crate::query::{clash, core, write_labels};
 use crate::state::Equality;
 use theory::literal::names;
 use theory::{Found, Literal, Refusal, Theory};
@@ -14,13 +12,13 @@ use theory::{Found, Literal, Refusal, Theory};
 impl<'a> Theory for Equality<'a> {
     ghost Shape = { List Term × List Claim };
 
-    ghost shape_of = { λ t. (t.terms.records.now, t.claims.now) };
+    ghost shape_of = { λ t. (t.closure.terms.records.now, t.claims.now) };
 
     ghost means = { λ s. equality s.0 s.1 };
 
-    ghost asserted = { λ t. take t.len t.list.items };
+    ghost asserted = { λ t. t.list.items };
 
-    ghost lawful = { λ t. (stands t.terms.records.now t.claims.now t.terms.few t.terms.lower t.few t.named).law };
+    ghost lawful = { λ t. (stands t.closure.terms.records.now t.claims.now t.closure.terms.few t.closure.terms.lower t.few t.named).law };
 
     ghost proper = { λ t. record { below = t.below; apart_claims = t.distinct } };
 
@@ -29,43 +27,35 @@ impl<'a> Theory for Equality<'a> {
     }
 
     fn terms(&self) -> usize {
-        self.terms.records.len()
+        self.closure.terms.records.len()
     }
 
     fn asserted_len(&self) -> usize {
-        self.len
+        self.list.len()
     }
 
     fn assert(&mut self, l: Literal) -> Result<(), Refusal> {
-        if l as usize >= 2 * self.claims.len() {
+        if usize::from(l) >= 2 * self.claims.len() {
             return Err(Refusal::NoSuchLiteral);
         }
-        let at = self.len;
-        if names(&self.list[0..at], l) {
+        if names(&self.list, l) {
             return Err(Refusal::ClaimOnList);
         }
-        let from = self.merges[at] as usize;
-        let count = absorb(
-            &self.terms,
-            self.claims,
-            &self.near,
-            &mut self.steps,
-            from,
-            &mut self.rows,
-            at as u16,
-            l,
-        );
-        self.list[at] = l;
-        self.merges[at + 1] = count as u16;
-        self.len = at + 1;
+        let p = self.list.len() as u16;
+        self.closure.absorb(self.claims, p, l);
+        let merges = self.closure.merges();
+        self.list.push_reserved(l);
+        self.merges.push_reserved(merges);
         Ok(())
     }
 
     fn take_back(&mut self, k: usize) -> Result<(), Refusal> {
-        if k > self.len {
+        if k > self.list.len() {
             return Err(Refusal::AboveLength);
         }
-        self.len = k;
+        self.closure.cut(self.merges[k]);
+        self.list.truncate(k);
+        self.merges.truncate(k + 1);
         Ok(())
     }
 
@@ -73,54 +63,25 @@ impl<'a> Theory for Equality<'a> {
         if place.len() < self.claims.len() {
             return Err(Refusal::ShortCorePlace);
         }
-        let list = &self.list[0..self.len];
-        let count = self.merges[self.len] as usize;
-        match clash(
-            &self.terms,
-            self.claims,
-            list,
-            &self.steps,
-            &self.rows,
-            count,
-        ) {
+        match self.closure.clash(self.claims, &self.list) {
             None => Ok(Found::Possible),
             Some(d) => {
-                let n = core(
-                    &self.terms,
-                    self.claims,
-                    list,
-                    &self.steps,
-                    &self.rows,
-                    count,
-                    &mut self.marks,
-                    d,
-                    place,
-                );
+                let n = self
+                    .closure
+                    .core(&mut self.marks, self.claims, &self.list, d, place)?;
                 Ok(Found::Impossible(n))
             }
         }
     }
 
     fn write(&mut self, place: &mut [i64]) -> Result<(), Refusal> {
-        let m = self.terms.records.len();
-        if place.len() < m {
+        if place.len() < self.closure.terms.records.len() {
             return Err(Refusal::ShortFitPlace);
         }
-        let list = &self.list[0..self.len];
-        let count = self.merges[self.len] as usize;
-        match clash(
-            &self.terms,
-            self.claims,
-            list,
-            &self.steps,
-            &self.rows,
-            count,
-        ) {
-            Some(_) => Err(Refusal::ListImpossible),
-            None => {
-                write_labels(&self.rows, count, m, place);
-                Ok(())
-            }
+        if self.closure.clash(self.claims, &self.list).is_some() {
+            return Err(Refusal::ListImpossible);
         }
+        self.closure.write_labels(place);
+        Ok(())
     }
 }

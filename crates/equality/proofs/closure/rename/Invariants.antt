@@ -1,10 +1,10 @@
-use Rattle.std.proofs.Common.{◌≡◌, ℕ, ◌+◌, ◌*◌, ◌<◌, get_or}
+use Rattle.std.proofs.Common.{◌≡◌, ℕ, ◌<◌, ◌≤◌, get_or}
 use Rattle.congruence.specs.Merges.{relabel}
-use Rattle.equality.specs.Logs.{cell}
 use Rattle.equality.proofs.closure.rename.Given as goal
 
--- the rows before are as they were, and the new one is written up to `t`
-abbrev pub invariant-loop-t : goal.invariant-loop-t
-invariant-loop-t l =
-    ((j : ℕ) → j < 256 * (l.k + 1) → get_or l.rows j 0 ≡ get_or l.initial.rows j 0)
-    × ((i : ℕ) → i < l.t → cell l.rows (l.k + 1) i ≡ relabel l.high l.low (cell l.initial.rows l.k i))
+-- the labels that were passed are renamed, and the others are as they were
+abbrev pub invariant-loop-x : goal.invariant-loop-x
+invariant-loop-x l = record {
+  passed : (t : ℕ) → t < l.x-index → get_or l.row t 0 ≡ relabel l.high l.low (get_or l.fn.row t 0);
+  rest : (t : ℕ) → l.x-index ≤ t → get_or l.row t 0 ≡ get_or l.fn.row t 0;
+}

@@ -1,52 +1,22 @@
-use Rattle.std.proofs.Common.{◌≡◌, ℕ, Bool, false, List, get_or, sym, ap, ◌∙◌, arith}
-use Rattle.std.specs.Vec.{with_items}
-use Rattle.std.proofs.lemmas.List.{with_items_is}
-use Rattle.equality.proofs.Holding.{read}
+use Rattle.std.proofs.Common.{◌≤◌, length, vec_items, ap, arith}
+use Rattle.equality.proofs.Growing.{merges_few}
+use Rattle.equality.proofs.Holding.{held, held_few}
 use Rattle.equality.proofs.state.calls.EqualityTheory.query.Goals as goal
+use Rattle.equality.proofs.state.calls.EqualityTheory.query.Goals.{Start}
 
-pub clash-requires : goal.clash-requires
-clash-requires c =
+-- there are no more literals than claims
+few : (c : Start) → length (vec_items c.args.self.now.list) ≤ length c.args.self.now.claims.now
+few c =
     let s = c.args.self.now in
-    let w = read s c.index.result.now c.deref.result.now c.deref-2.result.now c.deref-3.result.now c.deref.ensures.value c.deref-2.ensures.value c.deref-3.ensures.value c.index.ensures in
-    record { short = w.short; listed = w.listed; formed = w.formed; tabled = w.tabled; log = w.log; long = w.rows_long }
+    held_few s.closure.terms.records.now s.claims.now (vec_items s.list) (vec_items s.merges) (vec_items s.closure.steps) (held s)
 
-pub core-n-requires : goal.core-n-requires
-core-n-requires c =
+pub core-requires-clause-long : goal.core-requires-clause-long
+core-requires-clause-long c =
     let s = c.args.self.now in
-    let w = read s c.index.result.now c.deref.result.now c.deref-in-Some.result.now c.deref-in-Some-2.result.now c.deref.ensures.value c.deref-in-Some.ensures.value c.deref-in-Some-2.ensures.value c.index.ensures in
-    record {
-      short = w.short;
-      listed = w.listed;
-      formed = w.formed;
-      tabled = w.tabled;
-      log = w.log;
-      long = (w.steps_long, (c.deref_mut.ensures.len ∙ s.marks_long, w.rows_long));
-      clear = λ k. ap (λ (xs : List Bool). get_or xs k false) c.deref_mut.ensures.value ∙ s.clear k;
-      clash = sym c.in-Some.is ∙ c.clash.ensures;
-      within = omega (arith, w.few, c.if-place-self.false);
-    }
+    omega (arith, merges_few s.closure.terms.records.now s.closure.steps.items s.closure.formed, s.closure.terms.few, s.marks_long, ap length c.deref_mut.ensures.value)
 
-pub invariant_of-self-in-Some : goal.invariant_of-self-in-Some
-invariant_of-self-in-Some c =
-    let s = c.args.self.now in
-    let table = c.core-n.new.table in
-    let clear : (k : ℕ) → get_or (with_items s.marks table).items k false ≡ false =
-    λ k. ap (λ (xs : List Bool). get_or xs k false) (with_items_is s.marks table (c.core-n.auto.table ∙ c.deref_mut.ensures.len)) ∙ c.core-n.ensures.clear.1 k in
-    record {
-      few = s.few;
-      named = s.named;
-      near_long = s.near_long;
-      indexed = s.indexed;
-      list_long = s.list_long;
-      merges_long = s.merges_long;
-      steps_long = s.steps_long;
-      rows_long = s.rows_long;
-      marks_long = s.marks_long;
-      short = s.short;
-      below = s.below;
-      distinct = s.distinct;
-      rising = s.rising;
-      logged = s.logged;
-      tabled = s.tabled;
-      clear = clear;
-    }
+pub core-requires-clause-short : goal.core-requires-clause-short
+core-requires-clause-short c = omega (arith, few (goal.at.core-requires-clause-short c).Start, c.args.self.now.few, ap length c.deref-in-Some.ensures.value)
+
+pub core-requires-clause-within : goal.core-requires-clause-within
+core-requires-clause-within c = omega (arith, few (goal.at.core-requires-clause-within c).Start, c.if-place-self.false, ap length c.deref-in-Some.ensures.value)
