@@ -198,7 +198,7 @@ twins_none ts num none t u ht hu c = ⊎_elim
         ⊎_elim
         (λ (q : eqb (num t) (num u) ≡ true). eqb-true (num t) (num u) q)
         (λ (q : eqb (num t) (num u) ≡ false).
-        absurd (let z : true ≡ false = sym (and_from _ _ (not_from_false (eqb (num t) (num u)) q) (alike_from ts num t u c)) ∙ y in let w : ◌≡◌ {A = ℕ} 0 1 = cc in omega arith))
+        let z : true ≡ false = sym (and_from _ _ (not_from_false (eqb (num t) (num u)) q) (alike_from ts num t u c)) ∙ y in cc)
         (cases_Bool (eqb (num t) (num u)))
 
 -- ---- sweeping

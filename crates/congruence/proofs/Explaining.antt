@@ -165,5 +165,5 @@ module _ (ts : List Term) (Asserts : ℕ → ℕ → ℕ → Type 0) (p : ℕ) w
 
   pub needed_asserted : (log : List Step) → Logged ts Asserts log → (t u : ℕ) → needed ts log p t u ≡ true → (a : ℕ) × (b : ℕ) × Asserts p a b
   unfolding needed There
-  needed_asserted [] l t u e = absurd (let w : ◌≡◌ {A = ℕ} 0 1 = cc in omega arith)
+  needed_asserted [] l t u e = cc
   needed_asserted (s ∷ older) (r, l) t u e = needed_on s older r (needed_asserted older l) t u e

@@ -14,9 +14,9 @@ use Rattle.theory.specs.Terms.{at}
 use Rattle.congruence.specs.Table.{arg, Lower}
 use Rattle.congruence.specs.Congruence.{Fit, Joined}
 use Rattle.congruence.specs.Merges.{when, label, pair_at, pair_of, settle, join, absorb, log_at, log_of, needed}
-use Rattle.congruence.specs.Equality.{num, Says, clashes, clash, core, answer_of, equality, row, Named, Asserts, Asserted, Contradicted, Labelled, OneDenial, Stands}
+use Rattle.theory.specs.Meaning.{num}
+use Rattle.congruence.specs.Equality.{Says, clashes, clash, core, answer_of, equality, row, Named, Asserts, Asserted, Contradicted, Labelled, OneDenial, Stands}
 use Rattle.congruence.specs.Log.{RestsOn, Logged, Formed}
-use Rattle.theory.proofs.Claims.{proper_at}
 use Rattle.theory.proofs.Positions.{all_has, listed_rises, listed_has, listed_only}
 use Rattle.congruence.proofs.Searches.{found, not_found, when_some, when_none, row_long, row_at}
 use Rattle.congruence.proofs.Closing.{settles, joins, roots_few, label_low, label_root}
@@ -107,7 +107,7 @@ record Good (ts : List Term) (claims : List Claim) (ls : List ℕ) (k : ℕ) (lo
 
 module _ (ts : List Term) (claims : List Claim) (named : Named ts claims) (ls : List ℕ) (proper : Proper (length claims) ls) where
   pair_in : (p : ℕ) → p < length ls → ((pair_of claims (get_or ls p 0)).left < length ts) × ((pair_of claims (get_or ls p 0)).right < length ts)
-  pair_in p h = named (claim (get_or ls p 0)) (omega (arith, proper_at (length claims) ls p proper h))
+  pair_in p h = named (claim (get_or ls p 0)) (omega (arith, proper.below p 0 h))
 
   good_on : (k : ℕ) → k < length ls → (log : List Step) → Good ts claims ls k log → Good ts claims ls (suc k) (absorb ts claims k (get_or ls k 0) log)
   good_on k h log g = go (eqb (get_or ls k 0 % 2) 0) refl
@@ -217,8 +217,7 @@ module _ (ts : List Term) (claims : List Claim) (named : Named ts claims) (ls : 
         (λ x.
         let y = when_none _ _ (not_found (length ls) (λ p. when (clashes (label (log_of ts claims ls)) claims (get_or ls p 0)) p) e p h) in
         let z : true ≡ false =
-        sym (and_from _ _ (not_from_false _ (ne_eqb (get_or ls p 0 % 2) 0 q)) (eq-eqb _ _ (same_label _ _ (pair_in p h).0 (pair_in p h).1 x))) ∙ y in
-        let w : ◌≡◌ {A = ℕ} 0 1 = cc in omega arith))
+        sym (and_from _ _ (not_from_false _ (ne_eqb (get_or ls p 0 % 2) 0 q)) (eq-eqb _ _ (same_label _ _ (pair_in p h).0 (pair_in p h).1 x))) ∙ y in cc))
         (cases_eq (get_or ls p 0 % 2) 0)
 
     -- ---- the core
@@ -279,17 +278,16 @@ module _ (ts : List Term) (claims : List Claim) (named : Named ts claims) (ls : 
         let y = when_none _ _ (not_found (length ls) (λ p. when (clashes (label (log_of ts claims ls)) claims (get_or ls p 0)) p) e d x.within) in
         let one_class = labelled.joins _ _ (pair_in d x.within).0 (pair_in d x.within).1 x.joined in
         let z : true ≡ false =
-        sym (and_from _ _ (not_from_false _ (ne_eqb (get_or ls d 0 % 2) 0 (λ q. omega (arith, x.odd, q)))) (eq-eqb _ _ one_class)) ∙ y in
-        let w : ◌≡◌ {A = ℕ} 0 1 = cc in omega arith
+        sym (and_from _ _ (not_from_false _ (ne_eqb (get_or ls d 0 % 2) 0 (λ q. omega (arith, x.odd, q)))) (eq-eqb _ _ one_class)) ∙ y in cc
 
 -- ---- the law
 
 when_possible : (at_core : ℕ → List ℕ) (o : Option ℕ) → answer_of at_core o ≡ possible → o ≡ None
 when_possible at_core None e = refl
-when_possible at_core (Some d) e = absurd (let z : ◌≡◌ {A = ℕ} 0 1 = cc in omega arith)
+when_possible at_core (Some d) e = cc
 
 when_impossible : (at_core : ℕ → List ℕ) (o : Option ℕ) (ps : List ℕ) → answer_of at_core o ≡ impossible ps → (d : ℕ) × (o ≡ Some d) × (at_core d ≡ ps)
-when_impossible at_core None ps e = absurd (let z : ◌≡◌ {A = ℕ} 0 1 = cc in omega arith)
+when_impossible at_core None ps e = cc
 when_impossible at_core (Some d) ps e = (d, refl, cc)
 
 pub stands : Stands

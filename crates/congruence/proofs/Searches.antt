@@ -4,13 +4,10 @@ use Rattle.std.proofs.lemmas.Bool.{cases_eq, and_parts, and_from, or_cases, or_l
 use Rattle.congruence.specs.Merges.{when, or_else, first, last, every_below, any_below}
 use Rattle.congruence.specs.Equality.{row}
 
-some_none : {A : Type 0} {x : A} → ◌≡◌ {A = Option A} (Some x) None → ⊥
-some_none e = absurd (let z : ◌≡◌ {A = ℕ} 0 1 = cc in omega arith)
-
 -- what is found was found for some number, and nothing for the lower ones
 pub found : {A : Type 0} (n : ℕ) (f : ℕ → Option A) (x : A) → first n f ≡ Some x → (k : ℕ) × (k < n) × (f k ≡ Some x)
 unfolding first
-found zero f x e = absurd (some_none (sym e))
+found zero f x e = cc
 found {A} (suc n) f x e = go (found n f x) (first n f) refl e
   where
     go : (first n f ≡ Some x → (k : ℕ) × (k < n) × (f k ≡ Some x))
@@ -24,7 +21,7 @@ not_found zero f e k h = absurd (omega arith)
 not_found {A} (suc n) f e k h = go (λ w i. not_found n f w k i) (first n f) refl e
   where
     go : (first n f ≡ None → k < n → f k ≡ None) → (o : Option A) → first n f ≡ o → or_else o (f n) ≡ None → f k ≡ None
-    go again (Some y) w e = absurd (some_none e)
+    go again (Some y) w e = cc
     go again None w e = ⊎_elim
         (λ (q : k ≡ n). ap f q ∙ e)
         (λ (q : k ≡ n → ⊥). again w (omega arith))
@@ -33,7 +30,7 @@ not_found {A} (suc n) f e k h = go (λ w i. not_found n f w k i) (first n f) ref
 -- the same of a search from above
 pub last_found : {A : Type 0} (n : ℕ) (f : ℕ → Option A) (x : A) → last n f ≡ Some x → (k : ℕ) × (k < n) × (f k ≡ Some x)
 unfolding last
-last_found zero f x e = absurd (some_none (sym e))
+last_found zero f x e = cc
 last_found {A} (suc n) f x e = go (last_found n f x) (f n) refl e
   where
     go : (last n f ≡ Some x → (k : ℕ) × (k < n) × (f k ≡ Some x))
@@ -47,7 +44,7 @@ last_not_found zero f e k h = absurd (omega arith)
 last_not_found {A} (suc n) f e k h = go (λ w i. last_not_found n f w k i) (f n) refl e
   where
     go : (last n f ≡ None → k < n → f k ≡ None) → (o : Option A) → f n ≡ o → or_else o (last n f) ≡ None → f k ≡ None
-    go again (Some y) w e = absurd (some_none e)
+    go again (Some y) w e = cc
     go again None w e = ⊎_elim
         (λ (q : k ≡ n). ap f q ∙ w)
         (λ (q : k ≡ n → ⊥). again e (omega arith))
@@ -55,10 +52,10 @@ last_not_found {A} (suc n) f e k h = go (λ w i. last_not_found n f w k i) (f n)
 
 pub when_some : {A : Type 0} (b : Bool) (x y : A) → when b x ≡ Some y → (b ≡ true) × (x ≡ y)
 when_some true x y e = (refl, cc)
-when_some false x y e = absurd (some_none (sym e))
+when_some false x y e = cc
 
 pub when_none : {A : Type 0} (b : Bool) (x : A) → when b x ≡ None → b ≡ false
-when_none true x e = absurd (some_none e)
+when_none true x e = cc
 when_none false x e = refl
 
 pub every_in : (n : ℕ) (p : ℕ → Bool) → every_below n p ≡ true → (k : ℕ) → k < n → p k ≡ true
@@ -80,7 +77,7 @@ any_from (suc n) p k h e = ⊎_elim
     (cases_eq k n)
 
 pub any_in : (n : ℕ) (p : ℕ → Bool) → any_below n p ≡ true → (k : ℕ) × (k < n) × (p k ≡ true)
-any_in zero p e = absurd (let w : ◌≡◌ {A = ℕ} 0 1 = cc in omega arith)
+any_in zero p e = cc
 any_in (suc n) p e = ⊎_elim
     (λ h. (n, omega arith, h))
     (λ h. let w = any_in n p h in (w.0, omega (arith, w.1), w.2))

@@ -1,17 +1,13 @@
 -- The theory of equality: a claim says that two terms are equal. Assumes nothing.
-use Rattle.std.specs.Prelude.{◌≡◌, ℕ, zero, suc, ◌+◌, ◌%◌, ◌<◌, ◌≤◌, Bool, true, not, ◌&&◌, ◌||◌, List, [], ◌∷◌, length, get_or, ℤ, pos, Some, None, Option, ◌==◌, ◌≢◌, slice_index, slice_index_or}
+use Rattle.std.specs.Prelude.{◌≡◌, ℕ, zero, suc, ◌+◌, ◌%◌, ◌<◌, ◌≤◌, Bool, true, not, ◌&&◌, ◌||◌, List, [], ◌∷◌, length, get_or, ℤ, pos, Some, None, Option, ◌==◌, ◌≢◌, slice_index}
 use Rattle.theory.specs.declared.term.Term.{Term}
 use Rattle.theory.specs.Literals.{has, Proper}
-use Rattle.theory.specs.Meaning.{Answer, possible, impossible, Meaning, Lawful}
+use Rattle.theory.specs.Meaning.{Answer, possible, impossible, Meaning, num, Lawful}
 use Rattle.congruence.specs.declared.claim.Claim.{Claim}
 use Rattle.congruence.specs.Table.{Lower}
 use Rattle.congruence.specs.Congruence.{Fit, Joined}
 use Rattle.theory.specs.Positions.{listed}
 use Rattle.congruence.specs.Merges.{when, first, label, pair_at, pair_of, log_of, needed}
-
--- the number of a term
-abbrev pub num : List ℤ → ℕ → ℤ
-num v t = slice_index_or v t (pos 0)
 
 -- a claim holds of two equal numbers, its denial of two that differ
 abbrev pub Says : ℕ → ℤ → ℤ → Type 0

@@ -1,6 +1,7 @@
 //! A merge of two classes of terms, as a log of merges keeps it.
 
 /// Why two terms were merged.
+// No `Option` of a position: congruence is a reason too, and not the want of one.
 #[derive(Clone, Copy, PartialEq, Eq, Debug)]
 pub enum Reason {
     /// They have one symbol, and arguments of the same classes.

@@ -8,7 +8,8 @@ use Rattle.theory.specs.Literals.{has}
 use Rattle.theory.specs.Positions.{put}
 use Rattle.theory.proofs.Positions.{listed_rises, listed_has, listed_only}
 use Rattle.difference.specs.declared.bound.Bound.{Bound}
-use Rattle.difference.specs.Bounds.{at, num, Keeps, Leads, total, Distinct, NegativeCycle, Core}
+use Rattle.theory.specs.Meaning.{num}
+use Rattle.difference.specs.Bounds.{at, Keeps, Leads, total, Distinct, NegativeCycle, Core}
 use Rattle.difference.specs.Settling.{limit, excess, lowers, back, around, core}
 
 -- ---- membership

@@ -1,5 +1,5 @@
 -- How low the numbers of an outcome can be, and outcomes of longer lists. Assumes nothing.
-use Rattle.std.proofs.Common.{◌≡◌, ℕ, zero, suc, ◌+◌, ◌-◌, ◌*◌, ◌<◌, ◌≤◌, cond, eqb, List, [], ◌∷◌, ◌++◌, length, take, set, replicate, ℤ, pos, ◌≤ℤ◌, ◌<ℤ◌, sym, refl, ap, ◌∙◌, subst, inl, inr, ⊎_elim, append_assoc, append-nil, suc-mul, mul-le-mul, arith}
+use Rattle.std.proofs.Common.{◌≡◌, ℕ, zero, suc, ◌+◌, ◌-◌, ◌*◌, ◌<◌, ◌≤◌, cond, eqb, List, [], ◌∷◌, ◌++◌, length, take, set, replicate, ℤ, pos, ◌≤ℤ◌, ◌<ℤ◌, sym, refl, ap, ◌∙◌, subst, ⊎_elim, append_assoc, append-nil, suc-mul, mul-le-mul, arith}
 use lib.Signed.{lt_z}
 use Rattle.std.proofs.lemmas.Int.{ints}
 use Rattle.std.proofs.lemmas.Bool.{cond_both}
@@ -29,12 +29,12 @@ inside_weaker j k row h i x l = (omega (arith, ints, (i x l).0), (i x l).1)
 
 -- a fit is no lower than j bounds in a row can make it
 abbrev pub Deep : ℕ → ℕ → Outcome → Type 0
-Deep m j (inl row) = (length row ≡ m) × Inside j row
-Deep m j (inr ps) = Unit {0}
+Deep m j (fits row) = (length row ≡ m) × Inside j row
+Deep m j (clash ps) = Unit {0}
 
 deep_weaker : (m i j : ℕ) (o : Outcome) → i ≤ j → Deep m i o → Deep m j o
-deep_weaker m i j (inl row) h d = (d.0, inside_weaker i j row h d.1)
-deep_weaker m i j (inr ps) h d = tt
+deep_weaker m i j (fits row) h d = (d.0, inside_weaker i j row h d.1)
+deep_weaker m i j (clash ps) h d = tt
 
 settle_deep : (m : ℕ) (bs : List Bound) (u : ℕ) → Named m bs → Each Small bs → (k j : ℕ) (row : List ℤ) (steps : List ℕ) → length row ≡ m → Inside j row → Deep m (j + k) (settle bs u k row steps)
 unfolding settle turn
@@ -57,8 +57,8 @@ settle_deep m bs u formed small (suc k) j row steps l i =
     (λ t. (l, inside_weaker j (j + suc k) row (omega arith) i))
 
 add_deep : (m : ℕ) (seen : List Bound) (o : Outcome) (b : Bound) (j : ℕ) → Named m (seen ++ b ∷ []) → Each Small (seen ++ b ∷ []) → Deep m j o → Deep m (j + (m + 1)) (add m seen o b)
-add_deep m seen (inl row) b j formed small d = settle_deep m (seen ++ b ∷ []) b.base formed small (m + 1) j row [] d.0 d.1
-add_deep m seen (inr ps) b j formed small d = tt
+add_deep m seen (fits row) b j formed small d = settle_deep m (seen ++ b ∷ []) b.base formed small (m + 1) j row [] d.0 d.1
+add_deep m seen (clash ps) b j formed small d = tt
 
 pub each_front : (P : Bound → Type 0) (seen bs : List Bound) → Each P (seen ++ bs) → Each P seen
 each_front P seen bs h p l = subst P (get_or_append_left seen bs no_bound p l) (h p (omega (arith, l, length-append seen bs)))

@@ -6,11 +6,11 @@ use Rattle.std.proofs.lemmas.List.{length-map, get_or-map}
 use Rattle.std.specs.List.{All, AllByRecursion}
 use Rattle.theory.specs.Literals.{claim, complement, Proper}
 use Rattle.theory.specs.Meaning.{possible, impossible, Rising}
-use Rattle.theory.proofs.Claims.{proper_at}
 use Rattle.difference.specs.declared.bound.Bound.{Bound}
-use Rattle.difference.specs.Bounds.{no_bound, at, num, Keeps, Each, Named, Greatest, NegativeCycle, Core}
+use Rattle.theory.specs.Meaning.{num}
+use Rattle.difference.specs.Bounds.{no_bound, at, Keeps, Each, Named, Greatest, NegativeCycle, Core}
 use Rattle.difference.specs.Depth.{InRange, Small}
-use Rattle.difference.specs.Settling.{Outcome, outcome}
+use Rattle.difference.specs.Settling.{Outcome, fits, clash, outcome}
 use Rattle.difference.specs.Distance.{denied, bound_of, said, answer_of, row_of, Stands}
 use Rattle.theory.proofs.Positions.{all_has}
 use Rattle.difference.proofs.Cycle.{has_all, leads_within, cycle_fails}
@@ -78,7 +78,7 @@ module _ (m : ℕ) (claims : List Bound) (named : Named m claims) where
   list_named ls proper p h =
       let l : p < length ls = omega (arith, h, length-map ls (bound_of claims)) in
       subst (λ b. (b.term < m) × (b.base < m)) (sym (get_or-map (bound_of claims) ls p 0 no_bound l))
-      (bound_named (get_or ls p 0) (proper_at (length claims) ls p proper l))
+      (bound_named (get_or ls p 0) (proper.below p 0 l))
 
   good : (ls : List ℕ) → Proper (length claims) ls → Good m (said claims ls) (outcome m (said claims ls))
   good ls proper = outcome_good m (said claims ls) (list_named ls proper)
@@ -109,12 +109,12 @@ all_around : (P : ℕ → Type 0) (bs : List Bound) (core : List ℕ) (k : Core 
 all_around P bs core k a = has_all P k.around (λ p h. all_has P core a p (k.same p ∙ h))
 
 when_possible : (m : ℕ) (bs : List Bound) (o : Outcome) → Good m bs o → answer_of o ≡ possible → Greatest m bs (row_of o)
-when_possible m bs (inl row) g e = g
-when_possible m bs (inr ps) g e = absurd (let z : ◌≡◌ {A = ℕ} 0 1 = cc in omega arith)
+when_possible m bs (fits row) g e = g
+when_possible m bs (clash ps) g e = cc
 
 when_impossible : (m : ℕ) (bs : List Bound) (o : Outcome) (ps : List ℕ) → Good m bs o → answer_of o ≡ impossible ps → Core bs ps
-when_impossible m bs (inl row) ps g e = absurd (let z : ◌≡◌ {A = ℕ} 0 1 = cc in omega arith)
-when_impossible m bs (inr qs) ps g e = let z : qs ≡ ps = cc in subst (Core bs) z g
+when_impossible m bs (fits row) ps g e = cc
+when_impossible m bs (clash qs) ps g e = let z : qs ≡ ps = cc in subst (Core bs) z g
 
 pub stands : Stands
 stands m claims hm hn named = record {

@@ -5,7 +5,8 @@ use Rattle.std.proofs.lemmas.Int.{ints}
 use Rattle.std.proofs.lemmas.Bool.{cases_eq, cond_both, eqb-true, eqb-false}
 use Rattle.std.proofs.lemmas.List.{length-set, length_push, get_or_append_left, get_or_push}
 use Rattle.difference.specs.declared.bound.Bound.{Bound}
-use Rattle.difference.specs.Bounds.{at, num, Each, Fit, Low, Greatest, Core, Named}
+use Rattle.theory.specs.Meaning.{num}
+use Rattle.difference.specs.Bounds.{at, Each, Fit, Low, Greatest, Core, Named}
 use Rattle.difference.specs.Settling.{limit, excess, worst, core, Outcome, turn, settle, fits, clash}
 use Rattle.difference.proofs.Worst.{bounds, worst_is}
 use Rattle.difference.proofs.Settling.{Settling, Moved, moved, settles_on, t_old}
@@ -13,8 +14,8 @@ use Rattle.difference.proofs.Cycle.{Stepped, Once, closes}
 
 -- what an outcome has to say
 abbrev pub Good : ℕ → List Bound → Outcome → Type 0
-Good m bs (inl row) = Greatest m bs row
-Good m bs (inr ps) = Core bs ps
+Good m bs (fits row) = Greatest m bs row
+Good m bs (clash ps) = Core bs ps
 
 -- ---- the terms that are not lowered yet
 

@@ -5,10 +5,12 @@ use Rattle.std.proofs.lemmas.Bool.{cases_eq}
 use Rattle.std.proofs.lemmas.List.{length_push, length-append, length-replicate, get_or_append_left, get_or_push}
 use Rattle.std.specs.List.{AllByRecursion}
 use Rattle.difference.specs.declared.bound.Bound.{Bound}
+use Rattle.std.specs.Int.Signed.{≤ℤ_refl}
 use Rattle.theory.specs.Meaning.{Rising}
-use Rattle.difference.specs.Bounds.{Leads, total, Distinct, NegativeCycle, no_bound, at, num, Each, Keeps, Greatest, Core, Named}
-use Rattle.difference.specs.Settling.{limit, excess, worst, Outcome, add, outcome_from, outcome, fits}
-use Rattle.difference.proofs.Worst.{bounds, le_refl}
+use Rattle.theory.specs.Meaning.{num}
+use Rattle.difference.specs.Bounds.{Leads, total, Distinct, NegativeCycle, no_bound, at, Each, Keeps, Greatest, Core, Named}
+use Rattle.difference.specs.Settling.{limit, excess, worst, Outcome, add, outcome_from, outcome, fits, clash}
+use Rattle.difference.proofs.Worst.{bounds}
 use Rattle.difference.proofs.Cycle.{leads_within}
 use Rattle.difference.proofs.Outcome.{Good, Start, Going, free_all, settled}
 
@@ -85,7 +87,7 @@ pub going : (m : ℕ) (bs : List Bound) (u : ℕ) (row : List ℤ) → Start m b
 going m bs u row s = record {
   long = s.long;
   settling = record {
-    lower = λ x. le_refl (num row x);
+    lower = λ x. ≤ℤ_refl (num row x);
     apart = λ x. inl refl;
     near = bounds row 0 (0, pos 0) bs;
     kept = λ p h. inl refl;
@@ -97,11 +99,11 @@ going m bs u row s = record {
 }
 
 pub add_good : (m : ℕ) (seen : List Bound) (o : Outcome) (b : Bound) → Named m (seen ++ b ∷ []) → Good m seen o → Good m (seen ++ b ∷ []) (add m seen o b)
-add_good m seen (inl row) b formed g =
+add_good m seen (fits row) b formed g =
     let s : Start m (seen ++ b ∷ []) b.base row = start m seen b row formed g in
     settled m (seen ++ b ∷ []) b.base row s (m + 1) row [] (worst row (seen ++ b ∷ [])).1 (going m (seen ++ b ∷ []) b.base row s)
     (omega (arith, free_all row row, s.long))
-add_good m seen (inr ps) b formed g = core_push seen b ps g
+add_good m seen (clash ps) b formed g = core_push seen b ps g
 
 -- ---- the whole list
 

@@ -3,12 +3,10 @@ use Rattle.std.proofs.Common.{◌≡◌, ℕ, zero, suc, ◌+◌, ◌<◌, ◌�
 use lib.Signed.{lt_z}
 use Rattle.std.proofs.lemmas.Int.{ints}
 use Rattle.std.proofs.lemmas.Bool.{cases_Bool, cases_lt, cond-true, cond-false}
+use Rattle.std.specs.Int.Signed.{≤ℤ_refl}
 use Rattle.difference.specs.declared.bound.Bound.{Bound}
 use Rattle.difference.specs.Bounds.{at, Each}
 use Rattle.difference.specs.Settling.{excess, worse, worst_from, worst}
-
-pub le_refl : (a : ℤ) → a ≤ℤ a
-le_refl a = omega (arith, ints)
 
 pub le_trans : {a b c : ℤ} → a ≤ℤ b → b ≤ℤ c → a ≤ℤ c
 le_trans {a} {b} {c} p q = omega (arith, ints)
@@ -26,7 +24,7 @@ worse_place row i best b =
 
 pub grows : (row : List ℤ) (i : ℕ) (best : ℕ × ℤ) (bs : List Bound) → best.1 ≤ℤ (worst_from row i best bs).1
 unfolding worst_from
-grows row i best [] = le_refl best.1
+grows row i best [] = ≤ℤ_refl best.1
 grows row i best (b ∷ bs) = le_trans (worse_grows row i best b) (grows row (i + 1) (worse row i best b) bs)
 
 pub bounds : (row : List ℤ) (i : ℕ) (best : ℕ × ℤ) (bs : List Bound) → Each (λ b. excess row b ≤ℤ (worst_from row i best bs).1) bs

@@ -2,7 +2,7 @@
 -- cycles of bounds that no row keeps. Assumes nothing.
 use Rattle.std.specs.Prelude.{◌≡◌, ℕ, ◌<◌, false, List, [], ◌∷◌, map, length, ℤ, pos, ◌+ℤ◌, ◌-ℤ◌, ◌≤ℤ◌, ◌<ℤ◌, slice_index_or}
 use Rattle.theory.specs.Literals.{has}
-use Rattle.theory.specs.Meaning.{Rising}
+use Rattle.theory.specs.Meaning.{Rising, num}
 use Rattle.difference.specs.declared.bound.Bound.{Bound}
 
 -- what stands past the end of a list of bounds
@@ -12,10 +12,6 @@ no_bound = record { term = 0; base = 0; most = pos 0 }
 -- the bound at a position of a list
 abbrev pub at : List Bound → ℕ → Bound
 at bs p = slice_index_or bs p no_bound
-
--- the number of a term
-abbrev pub num : List ℤ → ℕ → ℤ
-num row x = slice_index_or row x (pos 0)
 
 -- a bound is kept if its term's number minus its base's is at most its constant
 abbrev pub Keeps : List ℤ → Bound → Type 0

@@ -1,11 +1,10 @@
 -- The theory of distances: a claim bounds the difference of two terms, and every list of numbers is a fit. Assumes nothing.
 use Rattle.std.specs.Prelude.{◌≡◌, ℕ, ◌%◌, ◌≤◌, cond, List, [], map, length, ℤ, pos, ◌-ℤ◌, neg_ℤ, ◌==◌}
-use Rattle.std.proofs.Common.{inl, inr}
 use Rattle.theory.specs.Literals.{claim, Proper}
 use Rattle.theory.specs.Meaning.{Answer, possible, impossible, Meaning, Lawful}
 use Rattle.difference.specs.declared.bound.Bound.{Bound}
 use Rattle.difference.specs.Bounds.{at, Keeps, Named, Greatest, NegativeCycle, Core}
-use Rattle.difference.specs.Settling.{Outcome, outcome}
+use Rattle.difference.specs.Settling.{Outcome, fits, clash, outcome}
 
 -- a - b ≤ c is denied by b - a ≤ -c - 1
 abbrev pub denied : Bound → Bound
@@ -20,12 +19,12 @@ abbrev pub said : List Bound → List ℕ → List Bound
 said claims ls = map (bound_of claims) ls
 
 abbrev pub answer_of : Outcome → Answer
-answer_of (inl row) = possible
-answer_of (inr core) = impossible core
+answer_of (fits row) = possible
+answer_of (clash core) = impossible core
 
 abbrev pub row_of : Outcome → List ℤ
-row_of (inl row) = row
-row_of (inr core) = []
+row_of (fits row) = row
+row_of (clash core) = []
 
 abbrev pub distances : ℕ → List Bound → Meaning
 distances m claims = record {

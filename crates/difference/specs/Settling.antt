@@ -1,20 +1,15 @@
 -- How the greatest fit of a list of bounds, or a negative cycle, is found: a function of the list alone. Assumes nothing.
-use Rattle.std.specs.Prelude.{ℕ, zero, suc, ◌+◌, Bool, cond, ◌⊎◌, List, [], ◌∷◌, ◌++◌, length, replicate, ℤ, pos, ◌+ℤ◌, ◌-ℤ◌, ◌==◌, int_lt, slice_index, slice_set}
-use Rattle.std.proofs.Common.{inl, inr}
+use Rattle.std.specs.Prelude.{ℕ, zero, suc, ◌+◌, Bool, cond, List, [], ◌∷◌, ◌++◌, length, replicate, ℤ, pos, ◌+ℤ◌, ◌-ℤ◌, ◌==◌, int_lt, slice_index, slice_set}
 use Rattle.theory.specs.Literals.{has}
 use Rattle.theory.specs.Positions.{put, listed}
 use Rattle.difference.specs.declared.bound.Bound.{Bound}
-use Rattle.difference.specs.Bounds.{at, num}
+use Rattle.theory.specs.Meaning.{num}
+use Rattle.difference.specs.Bounds.{at}
 
 -- a fit, or else a core
-abbrev pub Outcome : Type 0
-Outcome = List ℤ ⊎ List ℕ
-
-abbrev pub fits : List ℤ → Outcome
-fits row = inl row
-
-abbrev pub clash : List ℕ → Outcome
-clash core = inr core
+pub data Outcome : Type 0 where
+  fits : List ℤ → Outcome
+  clash : List ℕ → Outcome
 
 -- the greatest number that a bound lets its term have
 abbrev pub limit : List ℤ → Bound → ℤ
@@ -74,8 +69,8 @@ settle bs u (suc k) row steps = turn bs u (settle bs u k) row steps (worst row b
 
 -- with one more bound at the end: a cycle stays, and a fit is settled again, where the new bound's base is never lowered
 abbrev pub add : ℕ → List Bound → Outcome → Bound → Outcome
-add m seen (inr ps) b = clash ps
-add m seen (inl row) b = settle (seen ++ b ∷ []) b.base (m + 1) row []
+add m seen (clash ps) b = clash ps
+add m seen (fits row) b = settle (seen ++ b ∷ []) b.base (m + 1) row []
 
 unfoldable pub outcome_from : ℕ → List Bound → Outcome → List Bound → Outcome
 outcome_from m seen o [] = o

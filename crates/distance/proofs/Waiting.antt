@@ -8,7 +8,8 @@ use Rattle.std.proofs.lemmas.Bool.{cases_Bool, cases_eq, and_from, and_parts, or
 use Rattle.theory.specs.Literals.{has}
 use Rattle.theory.specs.Positions.{put}
 use Rattle.difference.specs.declared.bound.Bound.{Bound}
-use Rattle.difference.specs.Bounds.{at, num, Distinct}
+use Rattle.theory.specs.Meaning.{num}
+use Rattle.difference.specs.Bounds.{at, Distinct}
 use Rattle.difference.specs.Settling.{excess}
 use Rattle.difference.proofs.Cycle.{has_all}
 use Rattle.difference.proofs.Settling.{moved}

@@ -1,6 +1,7 @@
 //! The state of the distance theory: the list, and the table of what its literals say.
-ghost use Rattle.std.specs.Prelude.{◌≡◌, ◌*◌, ◌≤◌, true, length, vec_capacity, nat_lt};
-ghost use Rattle.theory.specs.Literals.{every, apart};
+ghost use Rattle.std.specs.Prelude.{◌≡◌, ◌*◌, ◌<◌, ◌≤◌, true, length, vec_capacity};
+ghost use Rattle.std.specs.List.{All};
+ghost use Rattle.theory.specs.Literals.{apart};
 ghost use Rattle.difference.specs.Bounds.{Named};
 ghost use Rattle.difference.specs.Depth.{InRange};
 ghost use Rattle.difference.specs.Distance.{said};
@@ -23,7 +24,7 @@ pub struct Distance<'a> {
     ghost range: { InRange claims.now },
     ghost room: { length claims.now ≤ vec_capacity list },
     ghost most: { table.most ≡ length claims.now },
-    ghost below: { every (λ l. nat_lt l (2 * length claims.now)) list.items ≡ true },
+    ghost below: { All (λ l. l < 2 * length claims.now) list.items },
     ghost distinct: { apart list.items ≡ true },
     ghost says: { table.bounds.items ≡ said claims.now list.items },
 }

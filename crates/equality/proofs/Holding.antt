@@ -4,7 +4,7 @@ use Rattle.std.proofs.lemmas.Bool.{cases_eq}
 use Rattle.std.proofs.lemmas.List.{length-set, get_or-set_same, get_or-set_other, take_more_set, take-take, length-take-le, length_push, get_or_default}
 use Rattle.theory.specs.declared.term.Term.{Term}
 use Rattle.theory.specs.Literals.{claim, names, Proper}
-use Rattle.theory.proofs.Claims.{proper_push, proper_take, proper_few, proper_at}
+use Rattle.theory.proofs.Claims.{proper_push, proper_take, proper_few}
 use Rattle.congruence.specs.declared.claim.Claim.{Claim}
 use Rattle.congruence.specs.declared.step.Step.{Step}
 use Rattle.congruence.specs.Merges.{absorb, log_at, log_of}
@@ -66,7 +66,7 @@ module _ (ts : List Term) (claims : List Claim) (list : List ℕ) (len : ℕ) (m
 
   pub held_listed : Listed ts claims (take len list)
   held_listed p lt =
-      let low : get_or (take len list) p 0 < 2 * length claims = proper_at (length claims) (take len list) p h.proper lt in
+      let low : get_or (take len list) p 0 < 2 * length claims = h.proper.below p 0 lt in
       let known : claim (get_or (take len list) p 0) < length claims = omega arith in
       let n = h.named (claim (get_or (take len list) p 0)) known in
       (known, n.0, n.1)

@@ -1,6 +1,7 @@
 //! The state of the equality theory: the list, and what it led to after each of its literals.
-ghost use Rattle.std.specs.Prelude.{◌≡◌, ℕ, ◌*◌, ◌<◌, ◌≤◌, true, false, length, take, vec_len, nat_lt, slice_index, slice_index_or};
-ghost use Rattle.theory.specs.Literals.{every, apart};
+ghost use Rattle.std.specs.Prelude.{◌≡◌, ℕ, ◌*◌, ◌<◌, ◌≤◌, true, false, length, take, vec_len, slice_index, slice_index_or};
+ghost use Rattle.std.specs.List.{All};
+ghost use Rattle.theory.specs.Literals.{apart};
 ghost use Rattle.congruence.specs.Merges.{log_at};
 ghost use Rattle.congruence.specs.Equality.{Named};
 ghost use Rattle.equality.specs.Index.{Indexed};
@@ -38,7 +39,7 @@ pub struct Equality<'a> {
     ghost rows_long: { vec_len rows ≡ 256 * length terms.records.now },
     ghost marks_long: { vec_len marks ≡ 256 },
     ghost short: { len ≤ 128 },
-    ghost below: { every (λ l. nat_lt l (2 * length claims.now)) (take len list.items) ≡ true },
+    ghost below: { All (λ l. l < 2 * length claims.now) (take len list.items) },
     ghost distinct: { apart (take len list.items) ≡ true },
     ghost rising: { (j k : ℕ) → j ≤ k → k ≤ len → slice_index merges.items j ≤ slice_index merges.items k },
     ghost logged: { (k : ℕ) → k ≤ len → until steps.items (slice_index merges.items k) ≡ log_at terms.records.now claims.now list.items k },

@@ -1,21 +1,20 @@
 -- Lists of literals with no claim twice. Assumes nothing.
-use Rattle.std.proofs.Common.{◌≡◌, ℕ, zero, suc, ◌+◌, ◌*◌, ◌<◌, ◌≤◌, Bool, true, false, cond, not, ◌||◌, eqb, ltb, ◌≢◌, List, [], ◌∷◌, ◌++◌, length, get_or, take, drop, sym, refl, ap, ◌∙◌, ⊎_elim, add-one, arith, drop-cons}
-use Rattle.std.proofs.lemmas.Bool.{cases_eq, cond_both, eq-eqb, ne_eqb, ltb-true, lt-ltb, and_parts, and_from, not-true, not_from_false, true≢false}
+use Rattle.std.proofs.Common.{◌≡◌, ℕ, zero, suc, ◌+◌, ◌*◌, ◌<◌, ◌≤◌, Bool, true, false, cond, not, ◌||◌, eqb, ◌≢◌, List, [], ◌∷◌, ◌++◌, length, get_or, take, drop, sym, refl, ap, ◌∙◌, ⊎_elim, add-one, arith, drop-cons}
+use Rattle.std.proofs.lemmas.Bool.{cases_eq, cond_both, eq-eqb, ne_eqb, and_parts, and_from, not-true, not_from_false, true≢false}
 use Rattle.std.proofs.lemmas.List.{drop_all}
-use Rattle.theory.specs.Literals.{claim, complement, has, names, apart, every, Proper}
+use Rattle.std.proofs.lemmas.List.Elements.{All-push, All-take}
+use Rattle.std.proofs.Math.Bool.{or-true}
+use Rattle.std.specs.List.{All}
+use Rattle.theory.specs.Literals.{claim, complement, has, names, apart, Proper}
 
 -- ---- the claims that a list names
-
-or_true : (b : Bool) → (b || true) ≡ true
-or_true true = refl
-or_true false = refl
 
 pub names_here : (x : ℕ) (xs : List ℕ) (l : ℕ) → claim x ≡ claim l → names (x ∷ xs) l ≡ true
 names_here x xs l h =
     ⊎_elim (λ (e : x ≡ l). rw (eq-eqb x l e))
     (λ (f : x ≢ l).
     let g : x ≡ complement l = omega (arith, f) in
-    rw (eq-eqb x (complement l) g) (or_true (eqb x l || has xs l)))
+    rw (eq-eqb x (complement l) g) (or-true (eqb x l || has xs l)))
     (cases_eq x l)
 
 pub names_later : (x : ℕ) (xs : List ℕ) (l : ℕ) → (claim x ≡ claim l → ⊥) → names (x ∷ xs) l ≡ names xs l
@@ -73,35 +72,17 @@ apart_take (suc k) (l ∷ ls) h =
     let b = and_parts (not (names ls l)) (apart ls) h in
     and_from _ _ (not_from_false _ (names_take k ls l (not-true (names ls l) b.0))) (apart_take k ls b.1)
 
-every_push : (p : ℕ → Bool) (xs : List ℕ) (x : ℕ) → every p xs ≡ true → p x ≡ true → every p (xs ++ x ∷ []) ≡ true
-every_push p [] x e h = and_from (p x) true h refl
-every_push p (y ∷ ys) x e h = let b = and_parts (p y) (every p ys) e in and_from (p y) _ b.0 (every_push p ys x b.1 h)
-
-every_take : (p : ℕ → Bool) (k : ℕ) (xs : List ℕ) → every p xs ≡ true → every p (take k xs) ≡ true
-every_take p zero [] e = refl
-every_take p zero (x ∷ xs) e = refl
-every_take p (suc k) [] e = refl
-every_take p (suc k) (x ∷ xs) e = let b = and_parts (p x) (every p xs) e in and_from (p x) _ b.0 (every_take p k xs b.1)
-
 pub proper_push : (n : ℕ) (ls : List ℕ) (l : ℕ) → Proper n ls → l < 2 * n → names ls l ≡ false → Proper n (ls ++ l ∷ [])
 proper_push n ls l p h e = record {
-  below = every_push (λ m. ltb m (2 * n)) ls l p.below (lt-ltb l (2 * n) h);
+  below = All-push (λ m. m < 2 * n) ls l p.below h;
   apart_claims = apart_push ls l p.apart_claims e;
 }
 
 pub proper_take : (n k : ℕ) (ls : List ℕ) → Proper n ls → Proper n (take k ls)
 proper_take n k ls p = record {
-  below = every_take (λ m. ltb m (2 * n)) k ls p.below;
+  below = All-take (λ m. m < 2 * n) k ls p.below;
   apart_claims = apart_take k ls p.apart_claims;
 }
-
-below_at : (n : ℕ) (ls : List ℕ) (p : ℕ) → every (λ l. ltb l (2 * n)) ls ≡ true → p < length ls → get_or ls p 0 < 2 * n
-below_at n [] p e h = absurd (omega (arith, h))
-below_at n (l ∷ ls) zero e h = ltb-true l (2 * n) (and_parts (ltb l (2 * n)) (every (λ k. ltb k (2 * n)) ls) e).0
-below_at n (l ∷ ls) (suc p) e h = below_at n ls p (and_parts (ltb l (2 * n)) (every (λ k. ltb k (2 * n)) ls) e).1 (omega (arith, h))
-
-pub proper_at : (n : ℕ) (ls : List ℕ) (p : ℕ) → Proper n ls → p < length ls → get_or ls p 0 < 2 * n
-proper_at n ls p w h = below_at n ls p w.below h
 
 -- ---- no more literals than claims
 
@@ -148,13 +129,12 @@ tally_new (suc k) l ls h new =
     zero_more : (k : ℕ) (ls : List ℕ) → names ls (2 * k) ≡ false → tally k ls ≡ tally k ls + cond (names ls (2 * k)) 1 0
     zero_more k ls e = let z : tally k ls ≡ tally k ls + 0 = omega arith in z ∙ ap (λ (b : Bool). tally k ls + cond b 1 0) (sym e)
 
-tally_all : (n : ℕ) (ls : List ℕ) → every (λ l. ltb l (2 * n)) ls ≡ true → apart ls ≡ true → tally n ls ≡ length ls
-tally_all n [] e h = tally_none n
-tally_all n (l ∷ ls) e h =
-    let b = and_parts (ltb l (2 * n)) (every (λ k. ltb k (2 * n)) ls) e in
+tally_all : (n : ℕ) (ls : List ℕ) → All (λ l. l < 2 * n) ls → apart ls ≡ true → tally n ls ≡ length ls
+tally_all n [] b h = tally_none n
+tally_all n (l ∷ ls) b h =
     let a = and_parts (not (names ls l)) (apart ls) h in
-    let low : l < 2 * n = ltb-true l (2 * n) b.0 in
-    tally_new n l ls (omega arith) (not-true (names ls l) a.0) ∙ ap (λ (x : ℕ). x + 1) (tally_all n ls b.1 a.1) ∙ add-one (length ls)
+    let low : l < 2 * n = b 0 0 (omega arith) in
+    tally_new n l ls (omega arith) (not-true (names ls l) a.0) ∙ ap (λ (x : ℕ). x + 1) (tally_all n ls (λ k d i. b (suc k) d (omega (arith, i))) a.1) ∙ add-one (length ls)
 
 pub proper_few : (n : ℕ) (ls : List ℕ) → Proper n ls → length ls ≤ n
 proper_few n ls p = omega (arith, tally_all n ls p.below p.apart_claims, tally_le n ls)

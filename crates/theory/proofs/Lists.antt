@@ -6,7 +6,7 @@ use Rattle.theory.specs.Literals.{names}
 use Rattle.theory.specs.Meaning.{Meaning, possible}
 use Rattle.theory.specs.Calls.{over, assert_says, assert_leaves, take_back_says, take_back_leaves, write_says, write_leaves, fit_says, fit_over}
 
-pub asserted : (M : Meaning) (ls : List ℕ) (l : ℕ) → l < 2 * M.claims → names ls l ≡ false → (Ok tt ≡ assert_says M ls l) × (ls ++ l ∷ [] ≡ assert_leaves M ls l)
+pub asserted : (M : Meaning) (ls : List ℕ) (l : ℕ) → l < 2 * M.claims → names ls l ≡ false → (Ok tt ≡ assert_says M.claims ls l) × (ls ++ l ∷ [] ≡ assert_leaves M.claims ls l)
 asserted M ls l low new = let e : ltb l (2 * M.claims) ≡ true = lt-ltb l (2 * M.claims) low in (rw (e, new), rw (e, new))
 
 -- to take back is to cut, also where nothing is cut

@@ -58,14 +58,14 @@ listed_has low (suc count) test k a b e = go (λ i. listed_has (low + 1) count t
         (λ (x : k ≡ low → ⊥). or_right (eqb low k) (has (listed (low + 1) count test) k) (again (omega arith)))
         (cases_eq k low)
     go again false q = ⊎_elim
-        (λ (x : k ≡ low). absurd (let z : true ≡ false = sym e ∙ ap test x ∙ q in let w : ◌≡◌ {A = ℕ} 0 1 = cc in omega arith))
+        (λ (x : k ≡ low). let z : true ≡ false = sym e ∙ ap test x ∙ q in cc)
         (λ (x : k ≡ low → ⊥). again (omega arith))
         (cases_eq k low)
 
 -- and only then
 pub listed_only : (low count : ℕ) (test : ℕ → Bool) (k : ℕ) → has (listed low count test) k ≡ true → test k ≡ true
 unfolding listed
-listed_only low zero test k e = absurd (let w : ◌≡◌ {A = ℕ} 0 1 = cc in omega arith)
+listed_only low zero test k e = cc
 listed_only low (suc count) test k e = go (listed_only (low + 1) count test k) (test low) refl e
   where
     go : (has (listed (low + 1) count test) k ≡ true → test k ≡ true) → (c : Bool) → test low ≡ c → has (put c low (listed (low + 1) count test)) k ≡ true → test k ≡ true

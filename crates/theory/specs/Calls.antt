@@ -15,13 +15,13 @@ Told V = Result V Refusal
 abbrev pub over : {V : Type 0} → List V → List V → List V
 over xs place = xs ++ drop (length xs) place
 
--- ---- Assert
+-- ---- Assert, where there are `n` claims
 
-abbrev pub assert_says : Meaning → List ℕ → ℕ → Told (Unit {0})
-assert_says M ls l = cond (nat_lt l (2 * M.claims)) (cond (names ls l) (Err ClaimOnList) (Ok tt)) (Err NoSuchLiteral)
+abbrev pub assert_says : ℕ → List ℕ → ℕ → Told (Unit {0})
+assert_says n ls l = cond (nat_lt l (2 * n)) (cond (names ls l) (Err ClaimOnList) (Ok tt)) (Err NoSuchLiteral)
 
-abbrev pub assert_leaves : Meaning → List ℕ → ℕ → List ℕ
-assert_leaves M ls l = cond (nat_lt l (2 * M.claims)) (cond (names ls l) ls (ls ++ l ∷ [])) ls
+abbrev pub assert_leaves : ℕ → List ℕ → ℕ → List ℕ
+assert_leaves n ls l = cond (nat_lt l (2 * n)) (cond (names ls l) ls (ls ++ l ∷ [])) ls
 
 -- ---- Take back
 

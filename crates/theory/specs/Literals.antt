@@ -1,6 +1,7 @@
 -- Literals, and lists of them. Claim i has the literal 2 * i, and its denial is 2 * i + 1; each is the other's
 -- complement. Assumes nothing.
-use Rattle.std.specs.Prelude.{◌≡◌, ℕ, ◌+◌, ◌-◌, ◌*◌, ◌/◌, ◌%◌, Bool, true, false, not, ◌&&◌, ◌||◌, List, [], ◌∷◌, ◌==◌, nat_lt}
+use Rattle.std.specs.Prelude.{◌≡◌, ℕ, ◌+◌, ◌-◌, ◌*◌, ◌/◌, ◌%◌, ◌<◌, Bool, true, false, not, ◌&&◌, ◌||◌, List, [], ◌∷◌, ◌==◌}
+use Rattle.std.specs.List.{All}
 
 abbrev pub claim : ℕ → ℕ
 claim l = l / 2
@@ -21,11 +22,7 @@ abbrev pub apart : List ℕ → Bool
 apart [] = true
 apart (l ∷ ls) = not (names ls l) && apart ls
 
-abbrev pub every : {A : Type 0} → (A → Bool) → List A → Bool
-every p [] = true
-every p (x ∷ xs) = p x && every p xs
-
 -- literals of n claims, no claim twice
 pub record Proper (n : ℕ) (ls : List ℕ) : Type 0 where
-  pub below : every (λ l. nat_lt l (2 * n)) ls ≡ true
+  pub below : All (λ l. l < 2 * n) ls
   pub apart_claims : apart ls ≡ true

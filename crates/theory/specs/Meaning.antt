@@ -1,5 +1,5 @@
 -- What a theory means, and the law of every theory. Assumes nothing.
-use Rattle.std.specs.Prelude.{◌≡◌, ℕ, ◌*◌, ◌<◌, ◌≤◌, ◌⊎◌, List, [], ◌∷◌, length, ℤ, slice_index}
+use Rattle.std.specs.Prelude.{◌≡◌, ℕ, ◌*◌, ◌<◌, ◌≤◌, ◌⊎◌, List, [], ◌∷◌, length, ℤ, pos, slice_index, slice_index_or}
 use Rattle.std.specs.List.{All}
 use Rattle.theory.specs.Literals.{complement, Proper}
 
@@ -18,6 +18,10 @@ pub record Meaning : Type 1 where
   pub Holds : ℕ → List ℤ → Type 0
   pub answer : List ℕ → Answer
   pub written : List ℕ → List ℤ
+
+-- the number of a term, in a list of numbers
+abbrev pub num : List ℤ → ℕ → ℤ
+num v t = slice_index_or v t (pos 0)
 
 -- a fit: one whole number for each term, admitted by the theory
 abbrev pub Fit : Meaning → List ℤ → Type 0

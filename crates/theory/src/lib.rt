@@ -1,6 +1,7 @@
 //! What every theory has: literals, a meaning, the calls with their refusals, and trials.
 #![tactic(auto)]
 
+pub mod asserted;
 pub mod literal;
 pub mod marks;
 pub mod refusal;
@@ -8,6 +9,7 @@ pub mod term;
 pub mod theory;
 pub mod trial;
 
+pub use asserted::Asserted;
 pub use literal::Literal;
 pub use marks::list_marks;
 pub use refusal::{Found, Refusal, Unmade};

@@ -3,6 +3,7 @@ ghost use Rattle.std.specs.Prelude.{◌≡◌};
 ghost use Rattle.theory.specs.Literals.{complement, names};
 
 /// A claim or its denial, by number.
+// No type of its own: the interface numbers literals, and a caller may pass any number of 16 bits.
 pub type Literal = u16;
 
 /// The denial of a claim, or the claim of a denial.

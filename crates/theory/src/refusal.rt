@@ -106,6 +106,7 @@ impl From<AllocError> for Unmade {
 }
 
 /// What a query finds; with `Impossible` comes the length of the core.
+// No `Option`: `Some` would stand for the list that has no fit.
 #[derive(Clone, Copy, PartialEq, Eq, Debug)]
 pub enum Found {
     Possible,

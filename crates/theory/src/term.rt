@@ -4,6 +4,7 @@ ghost use Rattle.theory.specs.Terms.{Arities, Limits};
 
 /// A measure of a face: a symbol applied to arguments, which are numbers of terms.
 /// `args[i]` counts only where `i` is below `arity`; a record may hold anything.
+// The count stands beside the arguments: the interface fixes the record, and a count past the limit is refused, not unsayable.
 #[derive(Clone, Copy, PartialEq, Eq, Debug)]
 pub struct Term {
     pub symbol: u16,

@@ -38,8 +38,8 @@ pub trait Theory {
     /// Puts a literal at the list's end.
     fn assert(&mut self, l: Literal) -> Result<(), Refusal>
         ensures shape { shape_of self.new ≡ shape_of self.old }
-        ensures says { result ≡ assert_says (means (shape_of self.old)) (asserted self.old) l }
-        ensures list { asserted self.new ≡ assert_leaves (means (shape_of self.old)) (asserted self.old) l };
+        ensures says { result ≡ assert_says (means (shape_of self.old)).claims (asserted self.old) l }
+        ensures list { asserted self.new ≡ assert_leaves (means (shape_of self.old)).claims (asserted self.old) l };
 
     /// Keeps the first `k` literals of the list.
     fn take_back(&mut self, k: usize) -> Result<(), Refusal>

@@ -17,7 +17,7 @@ impl Trial {
     pub fn open<T: Theory>(theory: &mut T, l: Literal) -> Result<Trial, Refusal>
         ensures shape { T.shape_of theory.new ≡ T.shape_of theory.old }
         ensures says { result ≡ trial_says (T.means (T.shape_of theory.old)) (T.asserted theory.old) l }
-        ensures list { T.asserted theory.new ≡ assert_leaves (T.means (T.shape_of theory.old)) (T.asserted theory.old) l }
+        ensures list { T.asserted theory.new ≡ assert_leaves (T.means (T.shape_of theory.old)).claims (T.asserted theory.old) l }
     {
         let len = theory.asserted_len();
         theory.assert(l)?;

@@ -49,7 +49,7 @@ invariant_of-result c =
       rows_long = rows.ok.0 ∙ w.ready.rows_long;
       marks_long = marks.ok.0 ∙ ap length clear ∙ length-replicate 256 false;
       short = omega arith;
-      below = refl;
+      below = λ k d h. absurd (omega arith);
       distinct = refl;
       rising = λ j k a b. let z : j ≡ k = omega arith in omega (arith, ap (λ (i : ℕ). get_or merges i 0) z);
       logged = logged ts claims list merges (vec_items steps) n (vec_items rows) w m.1;
