@@ -34,6 +34,7 @@ fn short(word: Word) -> Result<u16, Wrong>
     ensures { result ≡ short_of word }
 {
     let n = number(word, usize::from(u16::MAX))?;
+    // No `try_from`: by the contract of `number` the cast loses nothing, and an answer for what cannot come is no plainer.
     Ok(n as u16)
 }
 
@@ -113,7 +114,7 @@ fn term(words: &[Word]) -> Result<Said, Wrong>
             let args = arguments(rest)?;
             Ok(Said::Term(Term {
                 symbol,
-                arity: rest.len().min(255) as u8,
+                arity: u8::try_from(rest.len()).unwrap_or(u8::MAX),
                 args,
             }))
         }

@@ -88,7 +88,7 @@ fn ask(rt: &HostRuntime, file: &str) -> Result<String, Failure> {
     Ok(text)
 }
 
-/// Runs the command that the words name. An error is that of a stream, of which no more can be written.
+/// Runs the command that the words name. An error is of a standard stream, where nothing more can be said.
 fn run(rt: &HostRuntime, words: &[String]) -> io::Result<ExitCode> {
     match words {
         [] => rt.print(USAGE)?,
