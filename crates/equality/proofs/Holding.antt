@@ -1,10 +1,11 @@
 -- What the state keeps, over its parts: one literal more, or fewer. Assumes nothing.
-use Rattle.std.proofs.Common.{◌≡◌, ℕ, ◌+◌, ◌*◌, ◌<◌, ◌≤◌, false, List, [], ◌∷◌, ◌++◌, length, get_or, take, vec_items, sym, refl, ap, ◌∙◌, subst, ⊎_elim, arith, get_or-take}
+use Rattle.std.proofs.Common.{◌≡◌, ℕ, ◌+◌, ◌*◌, ◌<◌, ◌≤◌, List, [], ◌∷◌, ◌++◌, length, get_or, take, vec_items, sym, refl, ap, ◌∙◌, subst, ⊎_elim, arith, get_or-take}
 use Rattle.std.proofs.lemmas.Bool.{cases_eq}
 use Rattle.std.proofs.lemmas.List.{get_or_append_left, get_or_push, length-take-le, length_push}
 use Rattle.theory.specs.declared.term.Term.{Term}
-use Rattle.theory.specs.Literals.{claim, names, Proper}
-use Rattle.theory.proofs.Claims.{proper_push, proper_take, proper_few}
+use Rattle.theory.specs.Literals.{claim, Proper}
+use Rattle.theory.specs.Asserted.{literals_of}
+use Rattle.theory.proofs.Claims.{proper_take, proper_few}
 use Rattle.congruence.specs.declared.claim.Claim.{Claim}
 use Rattle.congruence.specs.declared.step.Step.{Step}
 use Rattle.congruence.specs.Merges.{absorb, log_at, log_of}
@@ -21,9 +22,9 @@ pub record Held (ts : List Term) (claims : List Claim) (list merges : List ℕ) 
   pub logged : (k : ℕ) → k ≤ length list → until ss (get_or merges k 0) ≡ log_at ts claims list k
   pub latest : get_or merges (length list) 0 ≡ length ss
 
-pub held : (s : Equality) → Held s.closure.terms.records.now s.claims.now (vec_items s.list) (vec_items s.merges) (vec_items s.closure.steps)
+pub held : (s : Equality) → Held s.closure.terms.records.now s.claims.now (literals_of s.list) (vec_items s.merges) (vec_items s.closure.steps)
 held s = record {
-  proper = record { below = s.below; apart_claims = s.distinct };
+  proper = subst (λ (n : ℕ). Proper n (literals_of s.list)) s.list_claims s.list.proper;
   merges_long = s.merges_long;
   rising = s.rising;
   logged = s.logged;
@@ -72,11 +73,8 @@ module _ (ts : List Term) (claims : List Claim) (list merges : List ℕ) (ss : L
         (subst (λ (x : List ℕ). Held ts claims x merges' rs) (sym el) (subst (λ (x : List ℕ). Held ts claims (take k list) x rs) (sym em) base))
 
   -- one literal more
-  module _ (us : List Term) (l : ℕ) (list' merges' : List ℕ) (rs : List Step) (same : us ≡ ts) (low : l < 2 * length claims) (new : names list l ≡ false)
+  module _ (us : List Term) (l : ℕ) (list' merges' : List ℕ) (rs : List Step) (same : us ≡ ts) (grown : Proper (length claims) list')
       (el : list' ≡ list ++ l ∷ []) (em : merges' ≡ merges ++ length rs ∷ []) (ran : Ran ss rs (absorb ts claims (length list) l (log ss))) where
-    grown : Proper (length claims) (list ++ l ∷ [])
-    grown = proper_push (length claims) list l h.proper low new
-
     wide : length (list ++ l ∷ []) ≡ length list + 1
     wide = length_push list l
 
@@ -113,7 +111,7 @@ module _ (ts : List Term) (claims : List Claim) (list merges : List ℕ) (ss : L
 
     more : Held ts claims (list ++ l ∷ []) (merges ++ length rs ∷ []) rs
     more = record {
-      proper = grown;
+      proper = subst (Proper (length claims)) el grown;
       merges_long = length_push merges (length rs) ∙ ap (λ (n : ℕ). n + 1) (h.merges_long ∙ sym wide);
       rising = λ j k a b. rising_more j k a (omega (arith, wide));
       logged = λ k a. logged_more k (omega (arith, wide));
@@ -124,7 +122,3 @@ module _ (ts : List Term) (claims : List Claim) (list merges : List ℕ) (ss : L
     held_push =
         subst (λ (t : List Term). Held t claims list' merges' rs) (sym same)
         (subst (λ (x : List ℕ). Held ts claims x merges' rs) (sym el) (subst (λ (x : List ℕ). Held ts claims (list ++ l ∷ []) x rs) (sym em) more))
-
-  -- there is room for a literal that is new
-  pub held_room : (l : ℕ) → l < 2 * length claims → names list l ≡ false → length list < length claims
-  held_room l low new = omega (arith, proper_few (length claims) (list ++ l ∷ []) (proper_push (length claims) list l h.proper low new), length_push list l)

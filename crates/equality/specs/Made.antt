@@ -2,6 +2,7 @@
 use Rattle.std.specs.Prelude.{◌≡◌, List, [], Result}
 use Rattle.theory.specs.declared.refusal.Unmade.{Unmade}
 use Rattle.theory.specs.declared.term.Term.{Term}
+use Rattle.theory.specs.Asserted.{literals_of}
 use Rattle.theory.specs.Made.{Making}
 use Rattle.congruence.specs.declared.claim.Claim.{Claim}
 use Rattle.congruence.specs.Equality.{Standing}
@@ -12,7 +13,7 @@ use Rattle.equality.specs.Checks.{Sound, Barred}
 pub record New (ts : List Term) (claims : List Claim) (e : Equality) : Type 0 where
   pub terms_are : e.closure.terms.records.now ≡ ts
   pub claims_are : e.claims.now ≡ claims
-  pub nothing : e.list.items ≡ []
+  pub nothing : literals_of e.list ≡ []
   pub stands : Standing ts claims
 
 -- sound records give a theory, or find no memory; others are refused

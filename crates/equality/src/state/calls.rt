@@ -1,12 +1,14 @@
 //! Equality as a theory.
 ghost use Rattle.std.specs.Prelude.{ℕ, List, length};
+ghost use Rattle.std.proofs.Common.{subst};
+ghost use Rattle.theory.specs.Literals.{Proper};
+ghost use Rattle.theory.specs.Asserted.{literals_of};
 ghost use Rattle.theory.specs.declared.term.Term.{Term};
 ghost use Rattle.congruence.specs.declared.claim.Claim.{Claim};
 ghost use Rattle.congruence.specs.Equality.{equality};
 ghost use Rattle.congruence.proofs.Law.{stands};
 
 use crate::state::Equality;
-use theory::literal::names;
 use theory::{Found, Literal, Refusal, Theory};
 
 impl<'a> Theory for Equality<'a> {
@@ -16,11 +18,11 @@ impl<'a> Theory for Equality<'a> {
 
     ghost means = { λ s. equality s.0 s.1 };
 
-    ghost asserted = { λ t. t.list.items };
+    ghost asserted = { λ t. literals_of t.list };
 
     ghost lawful = { λ t. (stands t.closure.terms.records.now t.claims.now t.closure.terms.few t.closure.terms.lower t.few t.named).law };
 
-    ghost proper = { λ t. record { below = t.below; apart_claims = t.distinct } };
+    ghost proper = { λ t. subst (λ n. Proper n (literals_of t.list)) t.list_claims t.list.proper };
 
     fn claims(&self) -> usize {
         self.claims.len()
@@ -31,30 +33,22 @@ impl<'a> Theory for Equality<'a> {
     }
 
     fn asserted_len(&self) -> usize {
-        self.list.len()
+        self.list.literals().len()
     }
 
     fn assert(&mut self, l: Literal) -> Result<(), Refusal> {
-        if usize::from(l) >= 2 * self.claims.len() {
-            return Err(Refusal::NoSuchLiteral);
-        }
-        if names(&self.list, l) {
-            return Err(Refusal::ClaimOnList);
-        }
-        let p = self.list.len() as u16;
-        self.closure.absorb(self.claims, p, l);
+        let p = self.list.literals().len();
+        self.list.push(l)?;
+        // A position is below 128; `try_from` would add a branch that never runs.
+        self.closure.absorb(self.claims, p as u16, l);
         let merges = self.closure.merges();
-        self.list.push_reserved(l);
         self.merges.push_reserved(merges);
         Ok(())
     }
 
     fn take_back(&mut self, k: usize) -> Result<(), Refusal> {
-        if k > self.list.len() {
-            return Err(Refusal::AboveLength);
-        }
+        self.list.take_back(k)?;
         self.closure.cut(self.merges[k]);
-        self.list.truncate(k);
         self.merges.truncate(k + 1);
         Ok(())
     }
@@ -63,12 +57,13 @@ impl<'a> Theory for Equality<'a> {
         if place.len() < self.claims.len() {
             return Err(Refusal::ShortCorePlace);
         }
-        match self.closure.clash(self.claims, &self.list) {
+        let list = self.list.literals();
+        match self.closure.clash(self.claims, list) {
             None => Ok(Found::Possible),
             Some(d) => {
                 let n = self
                     .closure
-                    .core(&mut self.marks, self.claims, &self.list, d, place)?;
+                    .core(&mut self.marks, self.claims, list, d, place)?;
                 Ok(Found::Impossible(n))
             }
         }
@@ -78,7 +73,11 @@ impl<'a> Theory for Equality<'a> {
         if place.len() < self.closure.terms.records.len() {
             return Err(Refusal::ShortFitPlace);
         }
-        if self.closure.clash(self.claims, &self.list).is_some() {
+        if self
+            .closure
+            .clash(self.claims, self.list.literals())
+            .is_some()
+        {
             return Err(Refusal::ListImpossible);
         }
         self.closure.write_labels(place);

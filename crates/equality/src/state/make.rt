@@ -8,7 +8,7 @@ use crate::state::Equality;
 use crate::terms::Terms;
 use congruence::Claim;
 use std::alloc::Global;
-use theory::{Term, Unmade};
+use theory::{Asserted, Term, Unmade};
 
 /// The theory of sound records.
 fn build<'a>(heap: Global, terms: &'a [Term], claims: &'a [Claim]) -> Result<Equality<'a>, Unmade>
@@ -16,7 +16,7 @@ fn build<'a>(heap: Global, terms: &'a [Term], claims: &'a [Claim]) -> Result<Equ
     ensures { Made terms.now claims.now result }
 {
     let closure = Closure::new(heap, Terms::new(terms))?;
-    let list = Vec::with_capacity(heap, claims.len())?;
+    let list = Asserted::new(heap, claims.len())?;
     let mut merges = Vec::with_capacity(heap, claims.len() + 1)?;
     merges.push_reserved(closure.merges());
     let marks = vec![in heap; false; 256]?;

@@ -3,6 +3,7 @@ use lib.ListN.{get_or-replicate, length-replicate}
 use Rattle.std.proofs.lemmas.Bool.{cases_lt}
 use Rattle.std.proofs.lemmas.List.{get_or_past}
 use Rattle.theory.specs.declared.term.Term.{Term}
+use Rattle.theory.specs.Asserted.{literals_of}
 use Rattle.congruence.specs.declared.claim.Claim.{Claim}
 use Rattle.congruence.specs.declared.step.Step.{Step}
 use Rattle.congruence.specs.Merges.{settle, log_at}
@@ -43,16 +44,14 @@ invariant_of-result c =
     let marks = c.in_ok-marks.marks in
     let clear : vec_items marks ≡ replicate 256 false = search rules in
     let same : closure.terms.records.now ≡ ts = c.in_ok-closure.ensures.terms ∙ c.new.ensures in
-    let h = none ts closure.terms.records.now claims (vec_items list) (vec_items merges) closure.steps.items same c.in_ok-list.ensures.items
+    let h = none ts closure.terms.records.now claims (literals_of list) (vec_items merges) closure.steps.items same c.in_ok-list.ensures.none
     (c.push_reserved.ensures.items ∙ ap (λ (xs : List ℕ). xs ++ c.merges.result ∷ []) c.in_ok-merges.ensures.items ∙ ap (λ (n : ℕ). [] ++ n ∷ []) c.merges.ensures)
     (c.in_ok-closure.ensures.settled ∙ ap (λ (us : List Term). settle us (length us) []) c.new.ensures) in
     record {
       few = c.requires.limits.few_claims;
       named = subst (λ (us : List Term). Named us claims) (sym same) c.requires.named;
-      room = omega (arith, c.in_ok-list.ensures.capacity);
+      list_claims = c.in_ok-list.ensures.claims;
       merges_room = omega (arith, c.in_ok-merges.ensures.capacity, c.push_reserved.ensures.capacity);
-      below = h.proper.below;
-      distinct = h.proper.apart_claims;
       merges_long = h.merges_long;
       rising = h.rising;
       logged = h.logged;
@@ -68,7 +67,7 @@ returns c =
       record {
         terms_are = c.in_ok-closure.ensures.terms ∙ c.new.ensures;
         claims_are = refl;
-        nothing = c.in_ok-list.ensures.items;
+        nothing = c.in_ok-list.ensures.none;
         stands = stands c.args.terms.now c.args.claims.now p.limits.few_terms p.lower p.limits.few_claims p.named;
       },
     )
