@@ -1,5 +1,5 @@
 -- The law of a theory, for equality. Assumes nothing.
-use Rattle.std.proofs.Common.{◌≡◌, ℕ, zero, suc, ◌+◌, ◌%◌, ◌<◌, ◌≤◌, Bool, true, false, cond, not, ◌||◌, eqb, ◌⊎◌, List, [], ◌∷◌, length, get_or, ℤ, pos, Some, None, Option, sym, refl, ap, ◌∙◌, subst, inl, inr, ⊎_elim, add-one, arith}
+use Rattle.std.proofs.Common.{◌≡◌, ℕ, zero, suc, ◌+◌, ◌%◌, ◌<◌, ◌≤◌, Bool, true, false, cond, not, ◌||◌, eqb, ◌⊎◌, List, [], length, get_or, ℤ, pos, Some, None, Option, sym, refl, ap, ◌∙◌, subst, inl, inr, ⊎_elim, add-one, arith}
 use Rattle.std.proofs.lemmas.Int.{ints, by_lt_z}
 use Rattle.std.proofs.lemmas.Bool.{cases_eq, eq-eqb, ne_eqb, eqb-true, eqb-false, and_parts, and_from, or_cases, or_left, or_right, not-true, not_from_false}
 use Rattle.std.proofs.lemmas.List.{get_or_default}
@@ -16,7 +16,7 @@ use Rattle.congruence.specs.Congruence.{Fit, Joined}
 use Rattle.congruence.specs.Merges.{when, label, pair_at, pair_of, settle, join, absorb, log_at, log_of, needed}
 use Rattle.theory.specs.Meaning.{num}
 use Rattle.congruence.specs.Equality.{Says, clashes, clash, core, answer_of, equality, row, Named, Asserts, Asserted, Contradicted, Labelled, OneDenial, Stands}
-use Rattle.congruence.specs.Log.{RestsOn, Logged, Formed}
+use Rattle.congruence.specs.Log.{Logged}
 use Rattle.theory.proofs.Positions.{all_has, listed_rises, listed_has, listed_only}
 use Rattle.congruence.proofs.Searches.{found, not_found, when_some, when_none, row_long, row_at}
 use Rattle.congruence.proofs.Closing.{settles, joins, roots_few, label_low, label_root}
@@ -89,16 +89,6 @@ module _ (claims : List Claim) (v : List ℤ) where
 all_from : (P : ℕ → Type 0) (ls : List ℕ) → ((p : ℕ) → p < length ls → P (get_or ls p 0)) → All P ls
 all_from P ls h k d i = subst P (get_or_default ls k 0 d i) (h k i)
 
--- a rightful log is one of merges of the table's terms
-formed : (ts : List Term) (A : ℕ → ℕ → ℕ → Type 0) (log : List Step) → Logged ts A log → Formed ts log
-formed ts A [] l = tt
-formed ts A (s ∷ older) (r, l) =
-    (record { left_in = r.left_in; right_in = r.right_in; order = r.order; ends = r.ends; rests_on = rests s.reason r.rests_on }, formed ts A older l)
-  where
-    rests : (x : Reason) → RestsOn ts A (label older) s.left s.right x → RestsOn ts (λ p a b. Unit {0}) (label older) s.left s.right x
-    rests Reason.Congruence c = c
-    rests (Reason.Asserted p) a = tt
-
 -- what the log of the first `k` literals is
 record Good (ts : List Term) (claims : List Claim) (ls : List ℕ) (k : ℕ) (log : List Step) : Type 0 where
   logged : Logged ts (Asserts claims ls) log
@@ -150,9 +140,6 @@ module _ (ts : List Term) (claims : List Claim) (named : Named ts claims) (ls : 
 
   good : Good ts claims ls (length ls) (log_of ts claims ls)
   good = good_at (length ls) (omega arith)
-
-  pub formed_at_list : (k : ℕ) → k ≤ length ls → Formed ts (log_at ts claims ls k)
-  formed_at_list k h = formed ts (Asserts claims ls) (log_at ts claims ls k) (good_at k h).logged
 
   -- ---- labels
 

@@ -9,7 +9,6 @@ use Rattle.theory.specs.Meaning.{possible, impossible, Rising}
 use Rattle.difference.specs.declared.bound.Bound.{Bound}
 use Rattle.theory.specs.Meaning.{num}
 use Rattle.difference.specs.Bounds.{no_bound, at, Keeps, Each, Named, Greatest, NegativeCycle, Core}
-use Rattle.difference.specs.Depth.{InRange, Small}
 use Rattle.difference.specs.Settling.{Outcome, fits, clash, outcome}
 use Rattle.difference.specs.Distance.{denied, bound_of, said, answer_of, row_of, Stands}
 use Rattle.theory.proofs.Positions.{all_has}
@@ -82,15 +81,6 @@ module _ (m : ℕ) (claims : List Bound) (named : Named m claims) where
 
   good : (ls : List ℕ) → Proper (length claims) ls → Good m (said claims ls) (outcome m (said claims ls))
   good ls proper = outcome_good m (said claims ls) (list_named ls proper)
-
--- a literal's constant is in range, or one below it
-pub bound_small : (claims : List Bound) → InRange claims → (l : ℕ) → l < 2 * length claims → Small (bound_of claims l)
-bound_small claims range l h =
-    let r : _ = range (claim l) (omega (arith, h)) in
-    ⊎_elim
-    (λ e. subst Small (sym (even claims l e)) (omega (arith, ints, r.0), r.1))
-    (λ ne. subst Small (sym (odd claims l ne)) (omega (arith, ints, r.1), omega (arith, ints, r.0)))
-    (cases_eq (l % 2) 0)
 
 -- ---- what an outcome says of a list
 

@@ -1,19 +1,17 @@
 -- What the state keeps, over its parts: one literal more, or fewer. Assumes nothing.
-use Rattle.std.proofs.Common.{◌≡◌, ℕ, ◌+◌, ◌*◌, ◌<◌, ◌≤◌, List, [], ◌∷◌, ◌++◌, length, get_or, take, vec_items, sym, refl, ap, ◌∙◌, subst, ⊎_elim, arith, get_or-take}
+use Rattle.std.proofs.Common.{◌≡◌, ℕ, ◌+◌, ◌≤◌, List, [], ◌∷◌, ◌++◌, length, get_or, take, vec_items, sym, refl, ap, ◌∙◌, subst, ⊎_elim, arith, get_or-take}
 use Rattle.std.proofs.lemmas.Bool.{cases_eq}
 use Rattle.std.proofs.lemmas.List.{get_or_append_left, get_or_push, length-take-le, length_push}
 use Rattle.theory.specs.declared.term.Term.{Term}
-use Rattle.theory.specs.Literals.{claim, Proper}
+use Rattle.theory.specs.Literals.{Proper}
 use Rattle.theory.specs.Asserted.{literals_of}
 use Rattle.theory.proofs.Claims.{proper_take, proper_few}
 use Rattle.congruence.specs.declared.claim.Claim.{Claim}
 use Rattle.congruence.specs.declared.step.Step.{Step}
 use Rattle.congruence.specs.Merges.{absorb, log_at, log_of}
-use Rattle.congruence.specs.Equality.{Named}
 use Rattle.congruence.proofs.Law.{log_at_same, log_at_more}
 use Rattle.equality.specs.declared.state.Equality.{Equality}
 use Rattle.equality.specs.Logs.{until, log, Ran}
-use Rattle.equality.specs.Asked.{Listed}
 
 pub record Held (ts : List Term) (claims : List Claim) (list merges : List ℕ) (ss : List Step) : Type 0 where
   pub proper : Proper (length claims) list
@@ -35,13 +33,6 @@ module _ (ts : List Term) (claims : List Claim) (list merges : List ℕ) (ss : L
   -- the merges are those of the list
   pub held_log : log ss ≡ log_of ts claims list
   held_log = ap (until ss) (sym h.latest) ∙ h.logged (length list) (omega arith)
-
-  pub held_listed : Named ts claims → Listed ts claims list
-  held_listed named p lt =
-      let low : get_or list p 0 < 2 * length claims = h.proper.below p 0 lt in
-      let known : claim (get_or list p 0) < length claims = omega arith in
-      let n = named (claim (get_or list p 0)) known in
-      (known, n.0, n.1)
 
   -- there are no more literals than claims
   pub held_few : length list ≤ length claims

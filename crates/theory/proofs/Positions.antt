@@ -125,9 +125,6 @@ partly_skip row p len test old new n h e x = record {
     here = listed_more p (len - p) test (omega arith) ∙ ap (λ b. put b p (listed (p + 1) ((len - p) - 1) test)) e
         ∙ ap (λ (k : ℕ). listed (p + 1) k test) (let z : (len - p) - 1 ≡ len - (p + 1) = omega arith in z)
 
-pub partly_start : (len : ℕ) (test : ℕ → Bool) (old : List ℕ) → Partly (listed 0 len test) 0 len test old old 0
-partly_start len test old = record { before = ap (λ (k : ℕ). listed 0 k test) (let z : len - 0 ≡ len = omega arith in z); rest = refl; few = omega arith; long = refl }
-
 pub partly_as : (row : List ℕ) (p len : ℕ) (test : ℕ → Bool) (old new new' : List ℕ) (n n' : ℕ) → new' ≡ new → n' ≡ n → Partly row p len test old new n → Partly row p len test old new' n'
 partly_as row p len test old new new' n n' e f x =
     subst (λ (l : List ℕ). Partly row p len test old l n') (sym e) (subst (λ (k : ℕ). Partly row p len test old new k) (sym f) x)
