@@ -33,6 +33,7 @@ pub(crate) struct Closure<'a> {
 fn own_labels() -> [u16; 256]
     ensures { (t : ℕ) → t < 256 → slice_index result t ≡ t }
 {
+    // Below 256: a `try_from` would have to answer for what cannot come.
     array::from_fn(|t| t as u16)
 }
 

@@ -38,6 +38,7 @@ fn nearest(records: &[Term], t: usize) -> Option<u16>
     requires term { t < length records.now }
     ensures { result ≡ nearest records.now t }
 {
+    // Below 256: a `try_from` would have to answer for what cannot come.
     last_like(&records[..t], &records[t]).map(|u| u as u16)
 }
 
@@ -49,7 +50,7 @@ impl<'a> Terms<'a> {
         ensures { result.records.now ≡ records.now }
     {
         let mut near = [None; 256];
-        // Tried over the entries with their numbers: the proof did not close.
+        // Tried over the entries with their numbers, and as `array::from_fn`: neither proof closed.
         for t in 0..records.len() {
             near[t] = nearest(records, t);
         }
@@ -60,6 +61,7 @@ impl<'a> Terms<'a> {
     pub(crate) fn len(&self) -> u16
         ensures { result ≡ length self.now.records.now }
     {
+        // At most 256, as above.
         self.records.len() as u16
     }
 

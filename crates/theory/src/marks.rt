@@ -15,9 +15,11 @@ pub fn list_marks(marks: &[bool], place: &mut [u16]) -> Result<usize, Refusal>
     if place.len() < marks.len() {
         return Err(Refusal::ShortCorePlace);
     }
+    // The place is filled by number: of what an iterator over it wrote, nothing is known afterwards.
     let mut n = 0;
     for (p, marked) in marks.iter().enumerate() {
         if *marked {
+            // Below 128; `try_from` would add a branch that never runs.
             place[n] = p as u16;
             n += 1;
         }
