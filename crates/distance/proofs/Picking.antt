@@ -2,7 +2,6 @@
 use Rattle.std.proofs.Common.{◌≡◌, ℕ, ◌+◌, ◌<◌, ◌≤◌, true, false, ◌⊎◌, List, [], ◌∷◌, ◌++◌, length, get_or, take, ℤ, pos, ◌≤ℤ◌, ◌<ℤ◌, Option, Some, None, sym, refl, ap, ◌∙◌, subst, inl, inr, ⊎_elim, arith}
 use lib.Signed.{lt_z}
 use Rattle.std.specs.List.{AllByRecursion}
-use Rattle.std.specs.Option.{option_map}
 use Rattle.std.proofs.lemmas.Int.{ints}
 use Rattle.std.proofs.ByRecursion.{All-push, All-weaker}
 use Rattle.std.proofs.lemmas.List.{take_more}
@@ -111,7 +110,7 @@ module _ (row : List ℤ) (bs : List Bound) (qs : List ℕ) (covers : Covers row
       omega (arith, l, all_has (λ n. excess row (at bs n) ≡ far → p ≤ n) qs w.first q (covers q k t) same)
 
   -- if each broken bound is among them, it is the one that a scan of all bounds finds
-  pub best_picked : (best : Option (ℕ × ℤ)) → Best row bs qs best → Picked row bs (option_map (λ w. w.0) best)
+  pub best_picked : (best : Option (ℕ × ℤ)) → Best row bs qs best → Picked row bs best
   best_picked None b =
       let e = worst_none row bs (λ q l. below (pos 0) (omega (arith, ints)) b q l) in omega (arith, ints, ap (λ w. w.1) e)
   best_picked (Some w) b =
@@ -120,4 +119,4 @@ module _ (row : List ℤ) (bs : List Bound) (qs : List ℕ) (covers : Covers row
         broken = omega (arith, ints, b.broken, b.far_is);
         most = λ q l. omega (arith, ints, below w.1 (omega (arith, ints, b.broken)) b.most q l, b.far_is);
         first = λ q l. ⊎_elim (λ less. less) (λ more. absurd (before w.0 w.1 b q l (omega (arith, ints, more, b.far_is)))) (order (excess row (at bs q)) (excess row (at bs w.0)));
-      }) in (ap (λ z. z.0) e, omega (arith, ints, b.broken, ap (λ z. z.1) e))
+      }) in (e, b.broken)

@@ -1,5 +1,5 @@
 -- A row that is settled by way of a queue, one turn after another. Assumes nothing.
-use Rattle.std.proofs.Common.{◌≡◌, ℕ, ◌+◌, ◌-◌, ◌<◌, ◌≤◌, List, [], ◌∷◌, ◌++◌, length, take, set, ℤ, pos, ◌<ℤ◌, filter, sym, ap, ◌∙◌, subst, arith}
+use Rattle.std.proofs.Common.{◌≡◌, ℕ, ◌+◌, ◌-◌, ◌<◌, ◌≤◌, List, [], ◌∷◌, ◌++◌, length, take, set, ℤ, pos, ◌<ℤ◌, filter, sym, subst, arith}
 use Rattle.std.proofs.lemmas.Int.{ints}
 use Rattle.std.proofs.lemmas.List.{length-append}
 use Rattle.difference.specs.declared.bound.Bound.{Bound}
@@ -11,6 +11,7 @@ use Rattle.difference.proofs.Outcome.{Start, Going, was_old, going_on, base_apar
 use Rattle.difference.proofs.Whole.{going}
 use Rattle.difference.proofs.Depth.{front_start, front_keeps}
 use Rattle.distance.specs.Queue.{breaks, broken_on}
+use Rattle.distance.proofs.Turning.{worst_far}
 use Rattle.distance.proofs.Waiting.{Waiting, waiting_few, waiting_last, waiting_on}
 
 -- no term was lowered twice, and the queue has what is broken
@@ -37,7 +38,7 @@ module _ (bs : List Bound) (u : ℕ) (old : List ℤ) (some : 0 < length bs) (na
     within = omega (arith, (worst_is row bs broken).0, p_is)
 
     far_is : (worst row bs).1 ≡ excess row (at bs p)
-    far_is = (worst_is row bs broken).1 ∙ ap (λ n. excess row (at bs n)) (sym p_is)
+    far_is = worst_far row bs p p_is broken
 
     same : num row (at bs p).term ≡ num old (at bs p).term
     same = was_old (length old) bs u old start row steps g.gap g.goes p (worst row bs).1 within far_is broken (bounds row 0 (0, pos 0) bs) free

@@ -26,6 +26,10 @@ settle_more bs u zero row steps h = absurd (omega arith)
 settle_more bs u (suc k) row steps h =
     let e : k ≡ suc k - 1 = omega arith in ap (λ n. turn bs u (settle bs u n) row steps (worst row bs)) e
 
+-- how far the worst bound is broken
+pub worst_far : (row : List ℤ) (bs : List Bound) (p : ℕ) → p ≡ (worst row bs).0 → pos 0 <ℤ (worst row bs).1 → (worst row bs).1 ≡ excess row (at bs p)
+worst_far row bs p p_is broken = (worst_is row bs broken).1 ∙ ap (λ n. excess row (at bs n)) (sym p_is)
+
 pub turn_start : (bs : List Bound) (u : ℕ) (row : List ℤ) → Inside 39000 row → Turning bs u row row [] 0 (length row + 1)
 turn_start bs u row h = record { whole = refl; long = refl; count = omega arith; inside = inside_weaker 39000 (39000 + 0) row (omega arith) h; positions = tt }
 
@@ -43,11 +47,6 @@ module _ (bs : List Bound) (u : ℕ) (old row : List ℤ) (steps : List ℕ) (do
   module _ (p : ℕ) (h : 0 < left) (p_is : p ≡ (worst row bs).0) (broken : pos 0 <ℤ (worst row bs).1) where
     pub turn_within : p < length bs
     turn_within = omega (arith, (worst_is row bs broken).0, p_is)
-
-    pub turn_broken : pos 0 <ℤ excess row (at bs p)
-    turn_broken =
-        let e : excess row (at bs p) ≡ excess row (at bs (worst row bs).0) = ap (λ n. excess row (at bs n)) p_is in
-        omega (arith, ints, (worst_is row bs broken).1, broken, e)
 
     inner : ℕ → Outcome
     inner q = cond (eqb (at bs q).term u) (clash (core bs steps q)) (settle bs u (left - 1) (set row (at bs q).term (limit row (at bs q))) (steps ++ q ∷ []))
@@ -71,6 +70,6 @@ module _ (bs : List Bound) (u : ℕ) (old row : List ℤ) (steps : List ℕ) (do
           long = length-set row (at bs p).term (limit row (at bs p)) ∙ g.long;
           count = omega (arith, g.count, h);
           inside = inside_weaker ((39000 + done) + 1) (39000 + (done + 1)) (set row (at bs p).term (limit row (at bs p))) (omega arith)
-              (inside_on (39000 + done) row (at bs p) g.inside (omega (arith, f.1, g.long)) (small p turn_within) (omega (arith, f.0, g.long)) turn_broken);
+              (inside_on (39000 + done) row (at bs p) g.inside (omega (arith, f.1, g.long)) (small p turn_within) (omega (arith, f.0, g.long)) (omega (arith, ints, worst_far row bs p p_is broken, broken)));
           positions = All-push (λ q. q < length bs) steps p g.positions turn_within;
         }

@@ -27,7 +27,8 @@ pub record Leading (best : Option (ℕ × ℤ)) (b r : ℕ × ℤ) : Type 0 wher
   pub no_less : (a : ℕ × ℤ) → best ≡ Some a → a.1 ≤ℤ r.1
   pub no_later : (a : ℕ × ℤ) → best ≡ Some a → a.1 ≡ r.1 → r.0 ≤ a.0
 
--- what is picked: nothing if nothing is broken, and else the position of the bound broken most, the first of several
-abbrev pub Picked : List ℤ → List Bound → Option ℕ → Type 0
+-- what is picked: nothing if nothing is broken, and else the position of the bound broken most, the first of several, and
+-- how far it is broken
+abbrev pub Picked : List ℤ → List Bound → Option (ℕ × ℤ) → Type 0
 Picked row bs None = (worst row bs).1 ≤ℤ pos 0
-Picked row bs (Some p) = (p ≡ (worst row bs).0) × (pos 0 <ℤ (worst row bs).1)
+Picked row bs (Some w) = (w ≡ worst row bs) × (pos 0 <ℤ w.1)

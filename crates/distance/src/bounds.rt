@@ -1,8 +1,8 @@
 //! Bounds one after another, and by their base: for each term the latest bound with that base, and for each bound the one
 //! before it.
 ghost use Rattle.std.specs.Prelude.{◌≡◌, ◌<◌, ◌≤◌, [], ◌∷◌, ◌++◌, length, take, vec_capacity, IfOk};
-ghost use Rattle.difference.specs.Bounds.{at, Each, Named};
-ghost use Rattle.difference.specs.Settling.{limit, excess};
+ghost use Rattle.difference.specs.Bounds.{Each, Named};
+ghost use Rattle.difference.specs.Settling.{excess};
 ghost use Rattle.difference.specs.Depth.{Small, Inside};
 ghost use Rattle.distance.specs.Index.{Heads, Nexts};
 
@@ -27,6 +27,17 @@ pub(crate) struct Bounds {
     ghost head_each: { length heads.items ≡ terms },
     ghost heads_are: { Heads items.items (length items.items) heads.items },
     ghost nexts_are: { Nexts items.items nexts.items },
+}
+
+/// How far the row breaks a bound.
+pub(crate) fn excess(b: Bound, row: &[i64]) -> i64
+    requires term { b.term < length row.now }
+    requires base { b.base < length row.now }
+    requires small { Small b }
+    requires inside { Inside 40000 row.now }
+    ensures { result ≡ excess row.now b }
+{
+    row[usize::from(b.term)] - (row[usize::from(b.base)] + i64::from(b.most))
 }
 
 /// Takes the bounds from position `k` on out of the heads, the latest first.
@@ -95,26 +106,5 @@ impl Bounds {
     {
         unlink(&self.items, k, &self.nexts, &mut self.heads);
         self.items.truncate(k);
-    }
-
-    /// The greatest number that the bound at a position lets its term have.
-    pub(crate) fn limit(&self, q: usize, row: &[i64]) -> i64
-        requires within { q < length self.now.items.items }
-        requires long { length row.now ≡ self.now.terms }
-        requires inside { Inside 40000 row.now }
-        ensures { result ≡ limit row.now (at self.now.items.items q) }
-    {
-        let b = self.items[q];
-        row[usize::from(b.base)] + i64::from(b.most)
-    }
-
-    /// How far the row breaks the bound at a position.
-    pub(crate) fn excess(&self, q: usize, row: &[i64]) -> i64
-        requires within { q < length self.now.items.items }
-        requires long { length row.now ≡ self.now.terms }
-        requires inside { Inside 40000 row.now }
-        ensures { result ≡ excess row.now (at self.now.items.items q) }
-    {
-        row[usize::from(self.items[q].term)] - self.limit(q, row)
     }
 }

@@ -4,8 +4,7 @@ ghost use Rattle.std.specs.List.{AllByRecursion};
 ghost use Rattle.difference.specs.Depth.{Inside};
 ghost use Rattle.distance.specs.Queue.{breaks, Covers, broken_on, Leading, Picked};
 
-use crate::bounds::Bounds;
-use crate::settle::Work;
+use crate::bounds::{Bounds, excess};
 
 /// Of the bound broken most so far, if any, and one that is broken, each by its position and how far it is broken, the one
 /// that is broken more, or of two alike the earlier.
@@ -18,33 +17,33 @@ fn lead(best: Option<(usize, i64)>, q: usize, over: i64) -> (usize, i64)
     }
 }
 
-impl Work {
-    /// The position of the bound that the row breaks most, the first of several. The queue has each bound that is broken, and
-    /// keeps just those.
-    pub(crate) fn pick(&mut self) -> Option<usize>
-        requires positions { AllByRecursion (λ q. q < length self.old.bounds.items.items) self.old.queue.items }
-        requires covers { Covers self.old.row.items self.old.bounds.items.items self.old.queue.items }
-        ensures picked { Picked self.old.row.items self.old.bounds.items.items result }
-        ensures kept { self.new.queue.items ≡ filter (breaks self.old.row.items self.old.bounds.items.items) self.old.queue.items }
-        ensures bounds { self.new.bounds ≡ self.old.bounds }
-        ensures row { self.new.row ≡ self.old.row }
-        ensures steps { self.new.steps ≡ self.old.steps }
-    {
-        let mut best = None;
-        let mut kept = 0;
-        // not `retain`: its test has to take any number, and only the position of a bound can be looked up
-        for i in 0..self.queue.len() {
-            let q = self.queue[i];
-            let over = self.bounds.excess(q, &self.row);
-            if over > 0 {
-                best = Some(lead(best, q, over));
-                self.queue[kept] = q;
-                kept += 1;
-            }
+/// Keeps the bounds that the row breaks in the queue, which has each of them, and no others. The answer is the position of the
+/// bound that is broken most, the first of several, and how far it is broken.
+// not a method of `Work`: tried, and slower by a tenth, as the loop then reads the fields anew for each bound
+pub(crate) fn sift(bounds: &Bounds, row: &[i64], queue: &mut Vec<usize>) -> Option<(usize, i64)>
+    requires long { length row.now ≡ bounds.now.terms }
+    requires inside { Inside 40000 row.now }
+    requires positions { AllByRecursion (λ q. q < length bounds.now.items.items) queue.old.items }
+    requires covers { Covers row.now bounds.now.items.items queue.old.items }
+    ensures picked { Picked row.now bounds.now.items.items result }
+    ensures kept { queue.new.items ≡ filter (breaks row.now bounds.now.items.items) queue.old.items }
+    ensures capacity { vec_capacity queue.new ≡ vec_capacity queue.old }
+{
+    let items = &bounds.items[..];
+    let mut best = None;
+    let mut kept = 0;
+    // not `retain`: its test has to take any number, and only the position of a bound can be looked up
+    for i in 0..queue.len() {
+        let q = queue[i];
+        let over = excess(items[q], row);
+        if over > 0 {
+            best = Some(lead(best, q, over));
+            queue[kept] = q;
+            kept += 1;
         }
-        self.queue.truncate(kept);
-        best.map(|w| w.0)
     }
+    queue.truncate(kept);
+    best
 }
 
 /// Puts the bounds with the base `x` that the row breaks at the queue's end.
@@ -57,8 +56,9 @@ pub(crate) fn enqueue(bounds: &Bounds, x: u16, row: &[i64], queue: &mut Vec<usiz
     ensures items { queue.new.items ≡ queue.old.items ++ broken_on row.now bounds.now.items.items x }
     ensures capacity { vec_capacity queue.new ≡ vec_capacity queue.old }
 {
+    let items = &bounds.items[..];
     for q in bounds.based(x) {
-        if bounds.excess(q, row) > 0 {
+        if excess(items[q], row) > 0 {
             queue.push_reserved(q);
         }
     }

@@ -1,14 +1,14 @@
 //! Settling a row of numbers after one more bound, and the cycle that is found instead.
-ghost use Rattle.std.specs.Prelude.{◌≡◌, ℕ, ◌+◌, ◌-◌, ◌<◌, ◌≤◌, false, [], ◌∷◌, ◌++◌, length, take, pos, ◌<ℤ◌, IfSome, IfOk, vec_capacity, MatchOption, slice_index_or, slice_set};
+ghost use Rattle.std.specs.Prelude.{◌≡◌, ℕ, ◌+◌, ◌-◌, ◌<◌, ◌≤◌, false, [], ◌∷◌, ◌++◌, length, take, pos, ◌<ℤ◌, IfSome, IfOk, vec_capacity, MatchOption, filter, slice_index_or, slice_set};
 ghost use Rattle.std.specs.List.{AllByRecursion};
 ghost use Rattle.theory.specs.Literals.{has};
 ghost use Rattle.difference.specs.Bounds.{at};
 ghost use Rattle.difference.specs.Settling.{around, core, limit, excess, outcome, fits, clash};
 ghost use Rattle.difference.specs.Depth.{Inside};
-ghost use Rattle.distance.specs.Queue.{broken_on};
+ghost use Rattle.distance.specs.Queue.{breaks, Covers, broken_on, Picked};
 
 use crate::bounds::Bounds;
-use crate::queue::enqueue;
+use crate::queue::{enqueue, sift};
 use std::alloc::{AllocError, Global};
 
 /// What settling works on: the bounds, a row of numbers, the positions of the bounds that lowered a term of it, one after
@@ -41,10 +41,25 @@ impl Work {
         })
     }
 
-    /// Lowers the term of the bound at `p` to what it allows, and queues those that the row then breaks.
-    fn lower(&mut self, p: usize)
+    /// The position of the bound that the row breaks most, the first of several, and how far it is broken. The queue has each
+    /// bound that is broken, and keeps just those.
+    fn pick(&mut self) -> Option<(usize, i64)>
+        requires positions { AllByRecursion (λ q. q < length self.old.bounds.items.items) self.old.queue.items }
+        requires covers { Covers self.old.row.items self.old.bounds.items.items self.old.queue.items }
+        ensures picked { Picked self.old.row.items self.old.bounds.items.items result }
+        ensures kept { self.new.queue.items ≡ filter (breaks self.old.row.items self.old.bounds.items.items) self.old.queue.items }
+        ensures bounds { self.new.bounds ≡ self.old.bounds }
+        ensures row { self.new.row ≡ self.old.row }
+        ensures steps { self.new.steps ≡ self.old.steps }
+    {
+        sift(&self.bounds, &self.row, &mut self.queue)
+    }
+
+    /// Lowers the term of the bound at `p`, which is broken so far, to what it allows, and queues those that the row then breaks.
+    fn lower(&mut self, p: usize, far: i64)
         requires within { p < length self.old.bounds.items.items }
-        requires broken { pos 0 <ℤ excess self.old.row.items (at self.old.bounds.items.items p) }
+        requires far_is { far ≡ excess self.old.row.items (at self.old.bounds.items.items p) }
+        requires broken { pos 0 <ℤ far }
         requires inside { Inside 39999 self.old.row.items }
         requires step_room { length self.old.steps.items < vec_capacity self.old.steps }
         requires queue_room { length self.old.queue.items + length (broken_on (slice_set self.old.row.items (at self.old.bounds.items.items p).term (limit self.old.row.items (at self.old.bounds.items.items p))) self.old.bounds.items.items (at self.old.bounds.items.items p).term) ≤ length self.old.bounds.items.items }
@@ -54,7 +69,7 @@ impl Work {
         ensures bounds { self.new.bounds ≡ self.old.bounds }
     {
         let x = self.bounds.items[p].term;
-        self.row[usize::from(x)] = self.bounds.limit(p, &self.row);
+        self.row[usize::from(x)] -= far;
         self.steps.push_reserved(p);
         enqueue(&self.bounds, x, &self.row, &mut self.queue);
     }
@@ -82,11 +97,11 @@ impl Work {
         self.queue.clear();
         self.queue.push_reserved(last);
         for _ in 0..=before.len() {
-            let p = self.pick()?;
+            let (p, far) = self.pick()?;
             if self.bounds.items[p].term == base {
                 return Some(p);
             }
-            self.lower(p);
+            self.lower(p, far);
         }
         None
     }

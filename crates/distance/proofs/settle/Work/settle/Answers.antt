@@ -1,4 +1,5 @@
-use Rattle.std.proofs.Common.{◌≡◌, ℕ, ◌+◌, ◌-◌, ◌<◌, ◌≤◌, List, [], ◌∷◌, ◌++◌, length, set, take, ℤ, pos, ◌≤ℤ◌, ◌<ℤ◌, vec_items, vec_len, filter, None, MatchOption, IfSome, sym, refl, ap, ◌∙◌, subst, arith, rules}
+use Rattle.std.proofs.Common.{◌≡◌, ℕ, ◌+◌, ◌-◌, ◌<◌, ◌≤◌, List, [], ◌∷◌, ◌++◌, length, set, take, ℤ, pos, ◌≤ℤ◌, ◌<ℤ◌, vec_items, vec_len, filter, None, MatchOption, IfSome, sym, refl, ap, ◌∙◌, subst, arith, rules, w64, to_z, of_z}
+use Rattle.std.proofs.lemmas.Int.{ints}
 use Rattle.std.specs.List.{AllByRecursion}
 use Rattle.std.proofs.lemmas.List.{get_or_read, length_push}
 use Rattle.difference.specs.declared.bound.Bound.{Bound}
@@ -7,7 +8,7 @@ use Rattle.difference.specs.Settling.{limit, excess, worst, core, settle, outcom
 use Rattle.difference.specs.Depth.{Inside}
 use Rattle.difference.proofs.Depth.{front_inside, inside_weaker, outcome_last}
 use Rattle.distance.specs.Queue.{breaks, broken_on}
-use Rattle.distance.proofs.Turning.{Turning, turn_start, turn_fits, turn_end, turn_within, turn_broken, turn_clash, turn_on}
+use Rattle.distance.proofs.Turning.{Turning, turn_start, turn_fits, turn_end, turn_within, turn_clash, turn_on, worst_far}
 use Rattle.distance.proofs.Running.{Running, run_start, run_on, run_room}
 use Rattle.distance.proofs.settle.Work.settle.Goals as goal
 use Rattle.distance.proofs.settle.Work.settle.Goals.{After-index, In_ok-p, After-index-in-loop, Else-index-base, After-lower}
@@ -59,11 +60,20 @@ loop-init c =
 left_over : (c : In_ok-p) → 0 < (length c.args.before.now + 1) - c.loop.counter
 left_over c = omega (arith, c.loop-test.true)
 
+picked : (c : In_ok-p) → (c.in_ok-p.p, c.in_ok-p.far) ≡ worst (vec_items c.loop.self.row) (vec_items c.args.self.now.bounds.items)
+picked c = c.in_ok-p.ensures.picked.0 ∙ ap (λ b. worst (vec_items c.loop.self.row) (vec_items b.items)) c.loop.invariant.3
+
 p_is : (c : In_ok-p) → c.in_ok-p.p ≡ (worst (vec_items c.loop.self.row) (vec_items c.args.self.now.bounds.items)).0
-p_is c = c.in_ok-p.ensures.picked.0 ∙ ap (λ b. (worst (vec_items c.loop.self.row) (vec_items b.items)).0) c.loop.invariant.3
+p_is c = ap (λ w. w.0) (picked c)
+
+far_is : (c : In_ok-p) → c.in_ok-p.far ≡ (worst (vec_items c.loop.self.row) (vec_items c.args.self.now.bounds.items)).1
+far_is c = ap (λ w. w.1) (picked c)
+
+far_fits : (c : In_ok-p) → to_z w64 (of_z w64 c.in_ok-p.far) ≡ c.in_ok-p.far
+far_fits c = grind (arith, ints, c.pick.type_inv, c.in_ok-p.was)
 
 broken : (c : In_ok-p) → pos 0 <ℤ (worst (vec_items c.loop.self.row) (vec_items c.args.self.now.bounds.items)).1
-broken c = subst (λ b. pos 0 <ℤ (worst (vec_items c.loop.self.row) (vec_items b.items)).1) c.loop.invariant.3 c.in_ok-p.ensures.picked.1
+broken c = subst (λ z. pos 0 <ℤ z) (far_is c) c.in_ok-p.ensures.picked.1
 
 -- picking leaves the bounds and the row
 same_bounds : (c : In_ok-p) → c.pick.new.self.bounds ≡ c.args.self.now.bounds
@@ -146,9 +156,8 @@ lower-requires c =
     let n : vec_len c.pick.new.self.steps ≡ c.loop.counter = ap vec_len c.pick.ensures.steps ∙ c.loop.invariant.2 in
     record {
       within = over (λ bs r. c.in_ok-p.p < length bs) d (p_in d);
-      broken = over (λ bs r. pos 0 <ℤ excess r (at bs c.in_ok-p.p)) d
-          (turn_broken (vec_items c.args.self.now.bounds.items) c.index.result.now.base c.args.before.now (vec_items c.loop.self.row) (vec_items c.loop.self.steps) c.loop.counter ((length c.args.before.now + 1) - c.loop.counter) t
-          c.in_ok-p.p (left_over d) (p_is d) (broken d));
+      far_is = far_fits d ∙ over (λ bs r. c.in_ok-p.far ≡ excess r (at bs c.in_ok-p.p)) d (far_is d ∙ worst_far (vec_items c.loop.self.row) (vec_items c.args.self.now.bounds.items) c.in_ok-p.p (p_is d) (broken d));
+      broken = subst (λ z. pos 0 <ℤ z) (sym (far_fits d)) c.in_ok-p.ensures.picked.1;
       inside = over (λ bs r. Inside 39999 r) d (inside_weaker (39000 + c.loop.counter) 39999 (vec_items c.loop.self.row) (omega (arith, c.loop-test.true, c.requires.long, c.args.self.now.bounds.few_terms)) t.inside);
       step_room = omega (arith, n, c.pick.new.self.steps.ok.0, c.loop-test.true, c.requires.long, c.pick.new.self.step_room, ap (λ b. b.terms) (same_bounds d));
       queue_room = over (λ bs r. length (vec_items c.pick.new.self.queue) + length (broken_on (set r (at bs c.in_ok-p.p).term (limit r (at bs c.in_ok-p.p))) bs (at bs c.in_ok-p.p).term) ≤ length bs) d
