@@ -3,6 +3,7 @@ use Rattle.std.proofs.Common.{◌≡◌, ℕ, zero, suc, ◌+◌, ◌%◌, ◌<�
 use Rattle.std.proofs.lemmas.Int.{ints, by_lt_z}
 use Rattle.std.proofs.lemmas.Bool.{cases_eq, eq-eqb, ne_eqb, eqb-true, eqb-false, and_parts, and_from, or_cases, or_left, or_right, not-true, not_from_false}
 use Rattle.std.proofs.lemmas.List.{get_or_default}
+use Rattle.std.proofs.lemmas.List.Elements.{recursion_from_All}
 use Rattle.std.specs.List.{All}
 use Rattle.theory.specs.declared.term.Term.{Term}
 use Rattle.congruence.specs.declared.claim.Claim.{Claim}
@@ -239,7 +240,7 @@ module _ (ts : List Term) (claims : List Claim) (named : Named ts claims) (ls : 
         (one_label _ _ (pair_in d z.within).0 (pair_in d z.within).1 z.one_class))
       where
         at_each : (p : ℕ) → p < length ls → test d p ≡ true → Holds claims v (get_or ls p 0)
-        at_each p h e = all_has (λ p. Holds claims v (get_or ls p 0)) (core ts claims ls d) all p (listed_has 0 (length ls) (test d) p (omega arith) (omega arith) e)
+        at_each p h e = all_has (λ p. Holds claims v (get_or ls p 0)) (core ts claims ls d) (recursion_from_All _ _ all) p (listed_has 0 (length ls) (test d) p (omega arith) (omega arith) e)
 
     one_denial : (d : ℕ) → Denied d → OneDenial ls (core ts claims ls d)
     unfolding test

@@ -1,32 +1,16 @@
 -- Cycles of bounds: a negative one is kept by no row, and the steps that led to a bound that would lower u make one.
 -- Assumes nothing.
-use Rattle.std.proofs.Common.{◌≡◌, ℕ, zero, suc, ◌<◌, ◌≤◌, Bool, true, false, cond, ◌||◌, eqb, ◌⊎◌, List, [], ◌∷◌, map, length, get_or, ℤ, pos, ◌+ℤ◌, ◌-ℤ◌, ◌≤ℤ◌, ◌<ℤ◌, sym, refl, ap, ◌∙◌, subst, inl, inr, ⊎_elim, arith}
+use Rattle.std.proofs.Common.{◌≡◌, ℕ, zero, suc, ◌<◌, ◌≤◌, Bool, true, false, cond, eqb, ◌⊎◌, List, [], ◌∷◌, map, length, get_or, ℤ, pos, ◌+ℤ◌, ◌-ℤ◌, ◌≤ℤ◌, ◌<ℤ◌, sym, refl, ap, ◌∙◌, inl, inr, ⊎_elim, arith}
 use Rattle.std.proofs.lemmas.Int.{ints}
-use Rattle.std.proofs.lemmas.Bool.{cases_eq, cases_Bool, eqb-true, eqb-false, eq-eqb, or_cases, true≢false}
+use Rattle.std.proofs.lemmas.Bool.{cases_eq, cases_Bool, eqb-true, eqb-false, or_cases, true≢false}
 use Rattle.std.specs.List.{AllByRecursion}
 use Rattle.theory.specs.Literals.{has}
 use Rattle.theory.specs.Positions.{put}
-use Rattle.theory.proofs.Positions.{listed_rises, listed_has, listed_only}
+use Rattle.theory.proofs.Positions.{all_has, listed_rises, listed_has, listed_only}
 use Rattle.difference.specs.declared.bound.Bound.{Bound}
 use Rattle.theory.specs.Meaning.{num}
 use Rattle.difference.specs.Bounds.{at, Keeps, Leads, total, Distinct, NegativeCycle, Core}
 use Rattle.difference.specs.Settling.{limit, excess, lowers, back, around, core}
-
--- ---- membership
-
-pub all_has : (P : ℕ → Type 0) (xs : List ℕ) → AllByRecursion P xs → (x : ℕ) → has xs x ≡ true → P x
-all_has P [] a x h = absurd (true≢false (sym h))
-all_has P (y ∷ ys) a x h =
-    ⊎_elim (λ e. subst P (eqb-true y x e) a.0) (all_has P ys a.1 x) (or_cases (eqb y x) (has ys x) h)
-
-pub has_all : (P : ℕ → Type 0) (xs : List ℕ) → ((x : ℕ) → has xs x ≡ true → P x) → AllByRecursion P xs
-has_all P [] h = tt
-has_all P (y ∷ ys) h =
-    (h y (ap (λ b. b || has ys y) (eq-eqb y y refl)), has_all P ys (λ x e. h x (later (eqb y x) (has ys x) e)))
-  where
-    later : (a b : Bool) → b ≡ true → (a || b) ≡ true
-    later true b e = refl
-    later false b e = e
 
 same_tests : (a b : Bool) → (a ≡ true → b ≡ true) → (b ≡ true → a ≡ true) → a ≡ b
 same_tests true b f g = sym (f refl)

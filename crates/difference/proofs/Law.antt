@@ -3,6 +3,7 @@ use Rattle.std.proofs.Common.{◌≡◌, ℕ, ◌*◌, ◌%◌, ◌<◌, eqb, �
 use Rattle.std.proofs.lemmas.Int.{ints, by_lt_z}
 use Rattle.std.proofs.lemmas.Bool.{cases_eq, cond-true, cond-false, eq-eqb, ne_eqb}
 use Rattle.std.proofs.lemmas.List.{length-map, get_or-map}
+use Rattle.std.proofs.lemmas.List.Elements.{recursion_from_All}
 use Rattle.std.specs.List.{All, AllByRecursion}
 use Rattle.theory.specs.Literals.{claim, complement, Proper}
 use Rattle.theory.specs.Meaning.{possible, impossible, Rising}
@@ -11,8 +12,8 @@ use Rattle.theory.specs.Meaning.{num}
 use Rattle.difference.specs.Bounds.{no_bound, at, Keeps, Each, Named, Greatest, NegativeCycle, Core}
 use Rattle.difference.specs.Settling.{Outcome, fits, clash, outcome}
 use Rattle.difference.specs.Distance.{denied, bound_of, said, answer_of, row_of, Stands}
-use Rattle.theory.proofs.Positions.{all_has}
-use Rattle.difference.proofs.Cycle.{has_all, leads_within, cycle_fails}
+use Rattle.theory.proofs.Positions.{all_has, has_all}
+use Rattle.difference.proofs.Cycle.{leads_within, cycle_fails}
 use Rattle.difference.proofs.Outcome.{Good}
 use Rattle.difference.proofs.Whole.{outcome_good}
 
@@ -96,7 +97,7 @@ all_at claims v ls (p ∷ ps) r h = (
 
 -- what holds at each position of a core holds around its cycle
 all_around : (P : ℕ → Type 0) (bs : List Bound) (core : List ℕ) (k : Core bs core) → All P core → AllByRecursion P k.around
-all_around P bs core k a = has_all P k.around (λ p h. all_has P core a p (k.same p ∙ h))
+all_around P bs core k a = has_all P k.around (λ p h. all_has P core (recursion_from_All P core a) p (k.same p ∙ h))
 
 when_possible : (m : ℕ) (bs : List Bound) (o : Outcome) → Good m bs o → answer_of o ≡ possible → Greatest m bs (row_of o)
 when_possible m bs (fits row) g e = g

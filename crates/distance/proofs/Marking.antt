@@ -6,10 +6,10 @@ use Rattle.std.proofs.ByRecursion.{All-get_or}
 use Rattle.std.proofs.lemmas.Bool.{cases_Bool, cases_eq, eq-eqb, ne_eqb}
 use Rattle.theory.specs.Literals.{has}
 use Rattle.theory.specs.Positions.{put, listed, marked}
+use Rattle.theory.proofs.Positions.{all_has}
 use Rattle.difference.specs.declared.bound.Bound.{Bound}
 use Rattle.difference.specs.Bounds.{at}
 use Rattle.difference.specs.Settling.{lowers, back, around, core}
-use Rattle.difference.proofs.Cycle.{all_has}
 
 or_none : (a : Bool) → (a || false) ≡ a
 or_none true = refl

@@ -6,10 +6,10 @@ use Rattle.std.proofs.lemmas.Int.{ints}
 use Rattle.std.proofs.ByRecursion.{All-push, All-weaker}
 use Rattle.std.proofs.lemmas.List.{take_more}
 use Rattle.std.proofs.lemmas.Bool.{cases_Bool}
+use Rattle.theory.proofs.Positions.{all_has}
 use Rattle.difference.specs.declared.bound.Bound.{Bound}
 use Rattle.difference.specs.Bounds.{at}
 use Rattle.difference.specs.Settling.{excess}
-use Rattle.difference.proofs.Cycle.{all_has}
 use Rattle.difference.proofs.Worst.{worst_taken, worst_none}
 use Rattle.distance.specs.Queue.{Covers, Leading, Picked}
 

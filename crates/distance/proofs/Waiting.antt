@@ -7,11 +7,11 @@ use Rattle.std.proofs.ByRecursion.{All-append, all_kept_by}
 use Rattle.std.proofs.lemmas.Bool.{cases_Bool, cases_eq, or_cases, or_from, or_left, or_right, or_parts, eq-eqb, eqb-true, eqb-false, not-true, both_ways}
 use Rattle.theory.specs.Literals.{has}
 use Rattle.theory.specs.Positions.{put}
+use Rattle.theory.proofs.Positions.{all_has, has_all}
 use Rattle.difference.specs.declared.bound.Bound.{Bound}
 use Rattle.theory.specs.Meaning.{num}
 use Rattle.difference.specs.Bounds.{at, Distinct}
 use Rattle.difference.specs.Settling.{excess}
-use Rattle.difference.proofs.Cycle.{all_has, has_all}
 use Rattle.difference.proofs.Settling.{moved}
 use Rattle.distance.specs.Index.{based}
 use Rattle.distance.specs.Queue.{breaks, Covers, broken_on}

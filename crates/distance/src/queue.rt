@@ -19,7 +19,7 @@ fn lead(best: Option<(usize, i64)>, q: usize, over: i64) -> (usize, i64)
 
 /// Keeps the bounds that the row breaks in the queue, which has each of them, and no others. The answer is the position of the
 /// bound that is broken most, the first of several, and how far it is broken.
-// not a method of `Work`: tried, and slower by a tenth, as the loop then reads the fields anew for each bound
+// Not a method of `Work`: tried, and slower by a tenth, as the loop then reads the fields anew for each bound.
 pub(crate) fn sift(bounds: &Bounds, row: &[i64], queue: &mut Vec<usize>) -> Option<(usize, i64)>
     requires long { length row.now ≡ bounds.now.terms }
     requires inside { Inside 40000 row.now }
@@ -32,7 +32,7 @@ pub(crate) fn sift(bounds: &Bounds, row: &[i64], queue: &mut Vec<usize>) -> Opti
     let items = &bounds.items[..];
     let mut best = None;
     let mut kept = 0;
-    // not `retain`: its test has to take any number, and only the position of a bound can be looked up
+    // Not `retain`: its test has to take any number, and only the position of a bound can be looked up.
     for i in 0..queue.len() {
         let q = queue[i];
         let over = excess(items[q], row);
@@ -47,7 +47,7 @@ pub(crate) fn sift(bounds: &Bounds, row: &[i64], queue: &mut Vec<usize>) -> Opti
 }
 
 /// Puts the bounds with the base `x` that the row breaks at the queue's end.
-// not a method of `Work`: tried, and no proof of it closed, as its loop lends the bounds while the queue grows
+// Not a method of `Work`: tried, and no proof of it closed, as its loop lends the bounds while the queue grows.
 pub(crate) fn enqueue(bounds: &Bounds, x: u16, row: &[i64], queue: &mut Vec<usize>)
     requires within { x < bounds.now.terms }
     requires long { length row.now ≡ bounds.now.terms }

@@ -79,7 +79,7 @@ impl Work {
     ///
     /// Terms are lowered until no bound is broken, or until a bound would lower the last bound's base. All bounds but the last
     /// are kept at first, so the queue starts with that one; a lowered term can break only bounds with that base.
-    // apart from its callers, whose own loops it would push out of the registers
+    // Apart from its callers, whose own loops it would push out of the registers.
     #[inline(never)]
     pub(crate) fn settle(&mut self, before: &[i64]) -> Option<usize>
         requires some { 0 < length self.old.bounds.items.items }

@@ -15,7 +15,7 @@ use theory::{Found, Refusal, list_marks};
 #[derive(Drop)]
 pub struct Table {
     pub(crate) work: Work,
-    // one list and ranges of it, not chunks: rows of no terms would be chunks of none
+    // One list and ranges of it, not chunks: rows of no terms would be chunks of none.
     rows: Vec<i64>,
     good: usize,
     marks: Vec<bool>,

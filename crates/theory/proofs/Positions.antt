@@ -1,8 +1,8 @@
 -- Rows of positions, and listing them one by one. Assumes nothing.
-use Rattle.std.proofs.Common.{◌≡◌, ℕ, zero, suc, ◌+◌, ◌-◌, ◌<◌, ◌≤◌, Bool, true, false, eqb, List, [], ◌∷◌, ◌++◌, length, take, drop, set, sym, refl, ap, ◌∙◌, subst, ⊎_elim, append_assoc, append-nil, arith, take-append-drop}
+use Rattle.std.proofs.Common.{◌≡◌, ℕ, zero, suc, ◌+◌, ◌-◌, ◌<◌, ◌≤◌, Bool, true, false, ◌||◌, eqb, List, [], ◌∷◌, ◌++◌, length, take, drop, set, sym, refl, ap, ◌∙◌, subst, ⊎_elim, append_assoc, append-nil, arith, take-append-drop}
 use Rattle.std.proofs.lemmas.List.{take_more_set, drop-set-lt, length-take-le, drop-drop, length-set}
 use Rattle.std.proofs.lemmas.Bool.{cases_eq, or_cases, or_left, or_right, eq-eqb, eqb-true, true≢false}
-use Rattle.std.specs.List.{All}
+use Rattle.std.specs.List.{AllByRecursion}
 use Rattle.theory.specs.Literals.{has}
 use Rattle.theory.specs.Positions.{put, listed}
 use Rattle.theory.specs.Meaning.{Rising}
@@ -10,11 +10,20 @@ use Rattle.theory.specs.Calls.{over}
 
 -- ---- what a list has
 
--- what holds of each element holds of each number that the list has
-pub all_has : (P : ℕ → Type 0) (xs : List ℕ) → All P xs → (x : ℕ) → has xs x ≡ true → P x
+-- what holds of each element holds of each number that the list has, and the other way round
+pub all_has : (P : ℕ → Type 0) (xs : List ℕ) → AllByRecursion P xs → (x : ℕ) → has xs x ≡ true → P x
 all_has P [] a x h = absurd (true≢false (sym h))
 all_has P (y ∷ ys) a x h =
-    ⊎_elim (λ e. subst P (eqb-true y x e) (a 0 0 (omega arith))) (all_has P ys (λ k d i. a (suc k) d (omega (arith, i))) x) (or_cases (eqb y x) (has ys x) h)
+    ⊎_elim (λ e. subst P (eqb-true y x e) a.0) (all_has P ys a.1 x) (or_cases (eqb y x) (has ys x) h)
+
+pub has_all : (P : ℕ → Type 0) (xs : List ℕ) → ((x : ℕ) → has xs x ≡ true → P x) → AllByRecursion P xs
+has_all P [] h = tt
+has_all P (y ∷ ys) h =
+    (h y (ap (λ b. b || has ys y) (eq-eqb y y refl)), has_all P ys (λ x e. h x (later (eqb y x) (has ys x) e)))
+  where
+    later : (a b : Bool) → b ≡ true → (a || b) ≡ true
+    later true b e = refl
+    later false b e = e
 
 -- ---- what is listed
 
