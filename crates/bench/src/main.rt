@@ -9,6 +9,7 @@ use std::time::Instant;
 use std::{env, iter};
 use theory::{Found, Refusal, Term, Theory, Unmade};
 
+// The makers of records stand here and in `samples`, which is tests alone; a public function for them would serve no theory.
 fn constant(symbol: u16) -> Term {
     Term {
         symbol,

@@ -68,6 +68,7 @@ impl fmt::Display for Fault {
 }
 
 /// Why a book was not read.
+// No generic type with `theory::Unmade`: the cases have names of their own.
 #[derive(Clone, Copy, PartialEq, Eq, Debug)]
 pub enum Unread {
     Fault(Fault),

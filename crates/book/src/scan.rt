@@ -37,6 +37,7 @@ pub fn before_comment(line: &[u8]) -> &[u8]
 }
 
 /// The lines of a text, without the line feeds that end them.
+// Not `split`: a line feed at the text's end begins no further line.
 #[derive(Clone, Copy)]
 pub struct Lines<'a>(pub &'a [u8]);
 

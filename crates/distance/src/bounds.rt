@@ -15,7 +15,7 @@ use std::alloc::{AllocError, Global};
 pub(crate) struct Bounds {
     pub(crate) terms: usize,
     pub(crate) items: Vec<Bound>,
-    // Positions and not boxes: no step may allocate.
+    // Positions and not boxes: no step may allocate. No fields of one entry: each contract speaks of the bare list of bounds.
     pub(crate) heads: Vec<Option<usize>>,
     pub(crate) nexts: Vec<Option<usize>>,
     ghost few_terms: { terms ≤ 256 },

@@ -16,6 +16,7 @@ pub(crate) fn check(terms: &[Term], claims: &[Bound]) -> Result<(), Refusal>
     if !few_arguments(terms, 0) {
         return Err(Refusal::TermHasArgument);
     }
+    // As in the other theory, but for the record: a trait for two fields would be longer than the test.
     if !claims.iter().all(|c| usize::from(c.term) < terms.len()
         && usize::from(c.base) < terms.len())
     {

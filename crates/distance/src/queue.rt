@@ -32,7 +32,7 @@ pub(crate) fn sift(bounds: &Bounds, row: &[i64], queue: &mut Vec<usize>) -> Opti
     let items = &bounds.items[..];
     let mut best = None;
     let mut kept = 0;
-    // Not `retain`: its test has to take any number, and only the position of a bound can be looked up.
+    // Tried as `retain`: its test has to take any number, of which only the position of a bound can be looked up, so the proof did not close.
     for i in 0..queue.len() {
         let q = queue[i];
         let over = excess(items[q], row);

@@ -13,6 +13,7 @@ use std::alloc::{AllocError, Global};
 
 /// What settling works on: the bounds, a row of numbers, the positions of the bounds that lowered a term of it, one after
 /// another, and the queue of those that it may break.
+// That steps and queue are positions of bounds is said by clauses: it is so only until bounds are cut.
 #[derive(Drop)]
 pub(crate) struct Work {
     pub(crate) bounds: Bounds,

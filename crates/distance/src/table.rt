@@ -15,9 +15,10 @@ use theory::{Found, Refusal, list_marks};
 #[derive(Drop)]
 pub struct Table {
     pub(crate) work: Work,
-    // One list and ranges of it, not chunks: rows of no terms would be chunks of none.
+    // One list and ranges of it: arrays of 256 numbers would take 264 kB for the smallest face, and chunks of no terms may not be taken.
     rows: Vec<i64>,
     good: usize,
+    // Made once, as no step may allocate; they count where `good` is below the number of bounds.
     marks: Vec<bool>,
     ghost reached: { good ≤ length work.bounds.items.items },
     ghost possible: { Possible work.bounds.terms work.bounds.items.items rows.items good },

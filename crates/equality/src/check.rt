@@ -23,6 +23,7 @@ fn lower_arguments(terms: &[Term]) -> bool
     requires { Arities 2 terms.now }
     ensures { Decides result (Lower terms.now) }
 {
+    // Tried as `all`: the proof did not close.
     for (k, t) in terms.iter().enumerate() {
         if !arguments_below(t, k) {
             return false;
@@ -41,6 +42,7 @@ pub(crate) fn check(terms: &[Term], claims: &[Claim]) -> Result<(), Refusal>
     if !lower_arguments(terms) {
         return Err(Refusal::ArgumentNotLower);
     }
+    // As in the other theory, but for the record: a trait for two fields would be longer than the test.
     let m = terms.len();
     if !claims
         .iter()

@@ -17,6 +17,7 @@ use theory::Literal;
 
 /// The merges so far, oldest first. `rows[k][t]` is the label of `t` after the first `k` merges,
 /// so that there is one row more than merges.
+// Steps and rows stand apart, for a row comes first. That a term is one of the table is asked by each method: no type of a number could name the table.
 #[derive(Drop)]
 pub(crate) struct Closure<'a> {
     pub(crate) terms: Terms<'a>,
@@ -101,6 +102,7 @@ impl<'a> Closure<'a> {
         let k = self.merges();
         let x = self.terms.records[usize::from(t)];
         let y = self.terms.records[usize::from(u)];
+        // Tried as `zip` and `all` over the arguments: the proof did not close.
         if x.arity > 0 && self.label(k, x.args[0]) != self.label(k, y.args[0]) {
             return false;
         }

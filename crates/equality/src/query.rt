@@ -37,6 +37,7 @@ fn cite_all(steps: &[Step], marks: &[bool], cited: &mut [bool])
     }
 }
 
+// That there is a mark for each merge, and which are set, is asked where marks are lent: the guard holds them while they are set, and the theory otherwise.
 impl Closure<'_> {
     /// Which positions are needed to join two terms; the marks are clear again on every way out.
     fn needed(&self, marks: &mut [bool], t: u16, u: u16) -> [bool; 128]
@@ -77,6 +78,7 @@ impl Closure<'_> {
         requires log { log self.now.steps.items ≡ log_of self.now.terms.records.now claims.now list.now }
         ensures { result ≡ clash self.now.terms.records.now claims.now list.now }
     {
+        // Tried as `position`: the proof did not close.
         for (p, l) in list.iter().enumerate() {
             if self.clashing(claims, *l) {
                 return Some(p);

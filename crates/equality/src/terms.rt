@@ -61,7 +61,7 @@ impl<'a> Terms<'a> {
     pub(crate) fn len(&self) -> u16
         ensures { result ≡ length self.now.records.now }
     {
-        // At most 256, as above.
+        // At most 256: a `try_from` would have to answer for what cannot come.
         self.records.len() as u16
     }
 

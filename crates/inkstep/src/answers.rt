@@ -5,6 +5,7 @@ use std::fmt;
 use theory::{Found, Literal, Refusal, Theory, Trial};
 
 /// Why there are no answers.
+// No generic type with `theory::Unmade`: the cases have names of their own.
 #[derive(Clone, Copy, PartialEq, Eq, Debug)]
 pub enum Unanswered {
     NoTrial { line: usize },

@@ -48,15 +48,20 @@ pub fn assert_all<T: Theory>(theory: &mut T, literals: &[Literal]) -> Result<(),
     Ok(())
 }
 
+/// The theory once the literals are asserted.
+fn asserted<T: Theory + Drop>(made: Result<T, Unmade>, literals: &[Literal]) -> Result<T, Stopped> {
+    let mut theory = made?;
+    assert_all(&mut theory, literals)?;
+    Ok(theory)
+}
+
 /// Asserts the literals and writes a fit.
 pub fn write_after<T: Theory + Drop>(
     made: Result<T, Unmade>,
     literals: &[Literal],
     place: &mut [i64],
 ) -> Result<(), Stopped> {
-    let mut theory = made?;
-    assert_all(&mut theory, literals)?;
-    theory.write(place)?;
+    asserted(made, literals)?.write(place)?;
     Ok(())
 }
 
@@ -66,13 +71,12 @@ pub fn query_after<T: Theory + Drop>(
     literals: &[Literal],
     place: &mut [u16],
 ) -> Result<Found, Stopped> {
-    let mut theory = made?;
-    assert_all(&mut theory, literals)?;
-    let found = theory.query(place)?;
+    let found = asserted(made, literals)?.query(place)?;
     Ok(found)
 }
 
 /// Fails a test whose two values differ.
+// Not `assert_eq!`: a helper that may end the process would need a bound that says so.
 pub fn agree<T: PartialEq + Drop>(found: T, wanted: T) -> Result<(), Fail> {
     if found == wanted {
         Ok(())

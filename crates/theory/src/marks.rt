@@ -15,7 +15,7 @@ pub fn list_marks(marks: &[bool], place: &mut [u16]) -> Result<usize, Refusal>
     if place.len() < marks.len() {
         return Err(Refusal::ShortCorePlace);
     }
-    // The place is filled by number: of what an iterator over it wrote, nothing is known afterwards.
+    // By number: what an adapter of `iter_mut` wrote into the place would not be known afterwards.
     let mut n = 0;
     for (p, marked) in marks.iter().enumerate() {
         if *marked {

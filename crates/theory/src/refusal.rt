@@ -24,6 +24,7 @@ pub enum Refusal {
 
 impl Refusal {
     /// The number by which callers know the refusal.
+    // The interface numbers its refusals.
     pub fn number(self) -> u8
         ensures { result ≡ number self }
     {
@@ -69,6 +70,7 @@ impl fmt::Display for Refusal {
 }
 
 /// Why a theory was not made: a listed refusal, or want of memory, which has no number.
+// No generic type for this and other errors with want of memory: their cases have names of their own.
 #[derive(Clone, Copy, PartialEq, Eq, Debug)]
 pub enum Unmade {
     Refused(Refusal),

@@ -54,6 +54,7 @@ impl<'a> Theory for Equality<'a> {
     }
 
     fn query(&mut self, place: &mut [u16]) -> Result<Found, Refusal> {
+        // The places are looked at in each theory: a function for one comparison is no plainer.
         if place.len() < self.claims.len() {
             return Err(Refusal::ShortCorePlace);
         }
