@@ -2,10 +2,10 @@
 use Rattle.std.proofs.Common.{◌≡◌, ℕ, zero, suc, ◌+◌, ◌<◌, ◌≤◌, Bool, true, false, cond, not, ◌&&◌, eqb, ◌⊎◌, List, [], ◌∷◌, length, Some, None, Option, sym, refl, ap, ◌∙◌, subst, inl, inr, ⊎_elim, arith}
 use Rattle.std.proofs.lemmas.Bool.{cases_lt, cases_eq, cases_Bool, eq-eqb, ne_eqb, eqb-true, eqb-false, cond-true, cond-false, and_parts, and_from, not-true, not_from_false}
 use Rattle.theory.specs.declared.term.Term.{Term}
+use Rattle.theory.specs.Terms.{at}
 use Rattle.congruence.specs.declared.step.Step.{Step}
 use Rattle.congruence.specs.declared.step.Reason.{Reason}
 use Rattle.congruence.specs.declared.step.Reason.TheVariants.{Congruence}
-use Rattle.theory.specs.Terms.{at}
 use Rattle.congruence.specs.Table.{arg}
 use Rattle.congruence.specs.Congruence.{Congruent, Fit}
 use Rattle.congruence.specs.Merges.{relabel, label, merge, alike, twin_at, twin, merge_on, sweep, settle, join}

@@ -2,10 +2,10 @@
 use Rattle.std.proofs.Common.{◌≡◌, ℕ, ◌<◌, Bool, true, false, cond, ◌||◌, eqb, ◌⊎◌, List, [], ◌∷◌, length, sym, refl, ◌∙◌, subst, inl, inr, ⊎_elim, arith}
 use Rattle.std.proofs.lemmas.Bool.{cases_eq, eq-eqb, eqb-true, eqb-false, or_cases, or_left, or_right}
 use Rattle.theory.specs.declared.term.Term.{Term}
+use Rattle.theory.specs.Terms.{at}
 use Rattle.congruence.specs.declared.step.Step.{Step}
 use Rattle.congruence.specs.declared.step.Reason.{Reason}
 use Rattle.congruence.specs.declared.step.Reason.TheVariants.{Congruence, Asserted}
-use Rattle.theory.specs.Terms.{at}
 use Rattle.congruence.specs.Table.{arg, Lower}
 use Rattle.congruence.specs.Congruence.{Fit, Joined, by_given, by_same, by_sym, by_trans, by_cong}
 use Rattle.congruence.specs.Merges.{relabel, label, rests, crosses, needed}

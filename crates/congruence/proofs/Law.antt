@@ -6,19 +6,18 @@ use Rattle.std.proofs.lemmas.List.{get_or_default}
 use Rattle.std.proofs.lemmas.List.Elements.{recursion_from_All}
 use Rattle.std.specs.List.{All}
 use Rattle.theory.specs.declared.term.Term.{Term}
+use Rattle.theory.specs.Literals.{claim, complement, Proper}
+use Rattle.theory.specs.Meaning.{possible, impossible, Rising, num}
+use Rattle.theory.specs.Terms.{at}
+use Rattle.theory.proofs.Positions.{all_has, listed_rises, listed_has, listed_only}
 use Rattle.congruence.specs.declared.claim.Claim.{Claim}
 use Rattle.congruence.specs.declared.step.Step.{Step}
 use Rattle.congruence.specs.declared.step.Reason.{Reason}
-use Rattle.theory.specs.Literals.{claim, complement, Proper}
-use Rattle.theory.specs.Meaning.{possible, impossible, Rising}
-use Rattle.theory.specs.Terms.{at}
 use Rattle.congruence.specs.Table.{arg, Lower}
 use Rattle.congruence.specs.Congruence.{Fit, Joined}
 use Rattle.congruence.specs.Merges.{when, label, pair_at, pair_of, settle, join, absorb, log_at, log_of, needed}
-use Rattle.theory.specs.Meaning.{num}
 use Rattle.congruence.specs.Equality.{Says, clashes, clash, core, answer_of, equality, row, Named, Asserts, Asserted, Contradicted, Labelled, OneDenial, Stands}
 use Rattle.congruence.specs.Log.{Logged}
-use Rattle.theory.proofs.Positions.{all_has, listed_rises, listed_has, listed_only}
 use Rattle.congruence.proofs.Searches.{found, not_found, when_some, when_none, row_long, row_at}
 use Rattle.congruence.proofs.Closing.{settles, joins, roots_few, label_low, label_root}
 use Rattle.congruence.proofs.Explaining.{complete, widen, At, explained, needed_asserted}

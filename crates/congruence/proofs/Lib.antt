@@ -3,3 +3,4 @@ pub mod Closing
 pub mod Explaining
 pub mod Law
 pub mod Samples
+pub mod Formed

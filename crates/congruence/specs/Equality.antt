@@ -3,10 +3,10 @@ use Rattle.std.specs.Prelude.{◌≡◌, ℕ, zero, suc, ◌+◌, ◌%◌, ◌<�
 use Rattle.theory.specs.declared.term.Term.{Term}
 use Rattle.theory.specs.Literals.{has, Proper}
 use Rattle.theory.specs.Meaning.{Answer, possible, impossible, Meaning, num, Lawful}
+use Rattle.theory.specs.Positions.{listed}
 use Rattle.congruence.specs.declared.claim.Claim.{Claim}
 use Rattle.congruence.specs.Table.{Lower}
 use Rattle.congruence.specs.Congruence.{Fit, Joined}
-use Rattle.theory.specs.Positions.{listed}
 use Rattle.congruence.specs.Merges.{when, first, label, pair_at, pair_of, log_of, needed}
 
 -- a claim holds of two equal numbers, its denial of two that differ

@@ -7,8 +7,8 @@ use Rattle.std.specs.List.{AllByRecursion}
 use Rattle.theory.specs.Literals.{has}
 use Rattle.theory.specs.Positions.{put}
 use Rattle.theory.proofs.Positions.{all_has, listed_rises, listed_has, listed_only}
-use Rattle.difference.specs.declared.bound.Bound.{Bound}
 use Rattle.theory.specs.Meaning.{num}
+use Rattle.difference.specs.declared.bound.Bound.{Bound}
 use Rattle.difference.specs.Bounds.{at, Keeps, Leads, total, Distinct, NegativeCycle, Core}
 use Rattle.difference.specs.Settling.{limit, excess, lowers, back, around, core}
 

@@ -6,13 +6,12 @@ use Rattle.std.proofs.lemmas.List.{length-map, get_or-map}
 use Rattle.std.proofs.lemmas.List.Elements.{recursion_from_All}
 use Rattle.std.specs.List.{All, AllByRecursion}
 use Rattle.theory.specs.Literals.{claim, complement, Proper}
-use Rattle.theory.specs.Meaning.{possible, impossible, Rising}
+use Rattle.theory.specs.Meaning.{possible, impossible, Rising, num}
+use Rattle.theory.proofs.Positions.{all_has, has_all}
 use Rattle.difference.specs.declared.bound.Bound.{Bound}
-use Rattle.theory.specs.Meaning.{num}
 use Rattle.difference.specs.Bounds.{no_bound, at, Keeps, Each, Named, Greatest, NegativeCycle, Core}
 use Rattle.difference.specs.Settling.{Outcome, fits, clash, outcome}
 use Rattle.difference.specs.Distance.{denied, bound_of, said, answer_of, row_of, Stands}
-use Rattle.theory.proofs.Positions.{all_has, has_all}
 use Rattle.difference.proofs.Cycle.{leads_within, cycle_fails}
 use Rattle.difference.proofs.Outcome.{Good}
 use Rattle.difference.proofs.Whole.{outcome_good}

@@ -4,8 +4,8 @@ use lib.Signed.{lt_z}
 use Rattle.std.proofs.lemmas.Int.{ints}
 use Rattle.std.proofs.lemmas.Bool.{cases_eq, cond_both, eqb-true, eqb-false}
 use Rattle.std.proofs.lemmas.List.{length-set, length_push, get_or_append_left, get_or_push}
-use Rattle.difference.specs.declared.bound.Bound.{Bound}
 use Rattle.theory.specs.Meaning.{num}
+use Rattle.difference.specs.declared.bound.Bound.{Bound}
 use Rattle.difference.specs.Bounds.{at, Each, Fit, Low, Greatest, Core, Named}
 use Rattle.difference.specs.Settling.{limit, excess, worst, core, Outcome, turn, settle, fits, clash}
 use Rattle.difference.proofs.Worst.{bounds, worst_is}

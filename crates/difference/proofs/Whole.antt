@@ -4,10 +4,9 @@ use Rattle.std.proofs.lemmas.Int.{ints}
 use Rattle.std.proofs.lemmas.Bool.{cases_eq}
 use Rattle.std.proofs.lemmas.List.{length_push, length-append, length-replicate, get_or_append_left, get_or_push}
 use Rattle.std.specs.List.{AllByRecursion}
-use Rattle.difference.specs.declared.bound.Bound.{Bound}
 use Rattle.std.specs.Int.Signed.{≤ℤ_refl}
-use Rattle.theory.specs.Meaning.{Rising}
-use Rattle.theory.specs.Meaning.{num}
+use Rattle.theory.specs.Meaning.{Rising, num}
+use Rattle.difference.specs.declared.bound.Bound.{Bound}
 use Rattle.difference.specs.Bounds.{Leads, total, Distinct, NegativeCycle, no_bound, at, Each, Keeps, Greatest, Core, Named}
 use Rattle.difference.specs.Settling.{limit, excess, worst, Outcome, add, outcome_from, outcome, fits, clash}
 use Rattle.difference.proofs.Worst.{bounds}

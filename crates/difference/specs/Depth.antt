@@ -1,7 +1,7 @@
 -- How large constants are, and how low numbers can be: all sums stay far inside 64 bits. Assumes nothing.
 use Rattle.std.specs.Prelude.{ℕ, ◌*◌, ◌<◌, List, length, ℤ, pos, ◌+ℤ◌, neg_ℤ, ◌≤ℤ◌}
-use Rattle.difference.specs.declared.bound.Bound.{Bound}
 use Rattle.theory.specs.Meaning.{num}
+use Rattle.difference.specs.declared.bound.Bound.{Bound}
 use Rattle.difference.specs.Bounds.{Each}
 
 -- the constant of each claim is from -1,000,000 to 1,000,000

@@ -3,13 +3,13 @@ use Rattle.std.proofs.Common.{◌≡◌, ℕ, ◌+◌, ◌-◌, ◌*◌, ◌<◌
 use Rattle.std.proofs.lemmas.List.{length_push, take_all, take-take, take-append-le, length-take-le, take-replicate, length-replicate, length-drop}
 use Rattle.std.proofs.lemmas.Slice.{between_is}
 use Rattle.std.proofs.lemmas.Bool.{cases_lt}
+use Rattle.theory.specs.Positions.{marked}
 use Rattle.difference.specs.declared.bound.Bound.{Bound}
 use Rattle.difference.specs.Settling.{fits, clash, outcome}
 use Rattle.difference.proofs.Whole.{outcome_none}
 use Rattle.difference.proofs.Depth.{clash_stays}
 use Rattle.distance.specs.declared.bounds.Bounds.{Bounds}
 use Rattle.distance.specs.declared.table.Table.{Table}
-use Rattle.theory.specs.Positions.{marked}
 use Rattle.distance.specs.Rows.{part, Possible, Broken}
 
 -- the rows of the possible prefixes, and the marks, of bounds on m terms with room for `most`

@@ -8,8 +8,8 @@ use Rattle.std.proofs.lemmas.Bool.{cases_Bool, cases_eq, or_cases, or_from, or_l
 use Rattle.theory.specs.Literals.{has}
 use Rattle.theory.specs.Positions.{put}
 use Rattle.theory.proofs.Positions.{all_has, has_all}
-use Rattle.difference.specs.declared.bound.Bound.{Bound}
 use Rattle.theory.specs.Meaning.{num}
+use Rattle.difference.specs.declared.bound.Bound.{Bound}
 use Rattle.difference.specs.Bounds.{at, Distinct}
 use Rattle.difference.specs.Settling.{excess}
 use Rattle.difference.proofs.Settling.{moved}

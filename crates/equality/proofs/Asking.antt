@@ -4,18 +4,18 @@ use Rattle.std.proofs.lemmas.Bool.{cases_eq, cases_Bool, and_parts, and_from, or
 use Rattle.std.proofs.lemmas.List.{length-set, length-take-le, get_or-set_same, get_or-set_other}
 use Rattle.theory.specs.Calls.{Told, over}
 use Rattle.theory.specs.declared.term.Term.{Term}
+use Rattle.theory.specs.Positions.{listed, marked, marks_say, marks_leave}
+use Rattle.theory.proofs.Positions.{listed_same}
 use Rattle.congruence.specs.declared.claim.Claim.{Claim}
 use Rattle.congruence.specs.declared.step.Step.{Step}
 use Rattle.congruence.specs.declared.step.Reason.{Reason}
 use Rattle.congruence.specs.declared.step.Reason.TheVariants.{Congruence, Asserted}
-use Rattle.theory.specs.Positions.{listed, marked, marks_say, marks_leave}
 use Rattle.congruence.specs.Merges.{when, or_else, first, label, pair_of, log_of}
 use Rattle.congruence.specs.Equality.{clashes, clash}
 use Rattle.congruence.proofs.Searches.{found, when_some, any_in, any_from}
 use Rattle.equality.specs.Logs.{step_at}
 use Rattle.equality.specs.Marked.{Covered, Grown}
 use Rattle.equality.specs.Asked.{asserted, covers}
-use Rattle.theory.proofs.Positions.{listed_same}
 
 -- ---- the first of several
 

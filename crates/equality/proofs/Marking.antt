@@ -3,9 +3,9 @@ use Rattle.std.proofs.Common.{◌≡◌, ℕ, zero, suc, ◌+◌, ◌<◌, ◌�
 use Rattle.std.proofs.lemmas.Bool.{cases_eq, eq-eqb, ne_eqb, eqb-true, cond-true, cond-false, or_cases, or_left, or_right}
 use Rattle.std.proofs.lemmas.List.{length-set, get_or-set_same, get_or-set_other}
 use Rattle.theory.specs.declared.term.Term.{Term}
+use Rattle.theory.specs.Terms.{at}
 use Rattle.congruence.specs.declared.step.Step.{Step}
 use Rattle.congruence.specs.declared.step.Reason.TheVariants.{Congruence, Asserted}
-use Rattle.theory.specs.Terms.{at}
 use Rattle.congruence.specs.Table.{arg}
 use Rattle.congruence.specs.Congruence.{Congruent}
 use Rattle.congruence.specs.Merges.{relabel, label, any_below, rests, crosses, needed}

@@ -1,5 +1,5 @@
 //! What records a theory may be made of.
-ghost use Rattle.std.specs.Prelude.{ℕ, ◌<◌, ◌≤◌, length, Decides, MatchResult};
+ghost use Rattle.std.specs.Prelude.{ℕ, ◌<◌, ◌≤◌, Decides, MatchResult};
 ghost use Rattle.theory.specs.Terms.{Arities};
 ghost use Rattle.congruence.specs.Table.{arg, Lower};
 ghost use Rattle.equality.specs.Checks.{Sound, Barred};

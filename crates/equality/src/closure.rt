@@ -1,5 +1,5 @@
 //! Congruence closure, which keeps a log of its merges and a row of labels after each.
-ghost use Rattle.std.specs.Prelude.{◌≡◌, ℕ, ◌+◌, ◌<◌, ◌≤◌, [], ◌∷◌, ◌++◌, length, take, Decides, IfOk, vec_capacity, slice_index, ◌≢◌};
+ghost use Rattle.std.specs.Prelude.{◌≡◌, ℕ, ◌+◌, ◌<◌, ◌≤◌, [], ◌∷◌, length, take, Decides, IfOk, vec_capacity, slice_index, ◌≢◌};
 ghost use Rattle.theory.specs.Literals.{claim};
 ghost use Rattle.theory.specs.Terms.{at};
 ghost use Rattle.congruence.specs.Table.{arg};
@@ -7,7 +7,7 @@ ghost use Rattle.congruence.specs.Merges.{relabel, label, twin, merge, pass, swe
 ghost use Rattle.congruence.specs.Log.{RestsOn, Formed};
 ghost use Rattle.equality.specs.Index.{SameHead};
 ghost use Rattle.equality.specs.Logs.{log, label_at, Tabled, Ran};
-ghost use Rattle.equality.specs.Formed.{Formed-prop};
+ghost use Rattle.congruence.proofs.Formed.{Formed-prop};
 
 use crate::terms::Terms;
 use congruence::{Claim, Reason, Step};

@@ -1,5 +1,5 @@
 //! Explaining from the log of merges: which merges join two terms.
-ghost use Rattle.std.specs.Prelude.{◌≡◌, ℕ, ◌<◌, ◌≤◌, length, ◌≢◌};
+ghost use Rattle.std.specs.Prelude.{◌≡◌, ◌<◌, ◌≤◌, length, ◌≢◌};
 ghost use Rattle.congruence.specs.Merges.{needed};
 ghost use Rattle.equality.specs.Logs.{until, label_at};
 ghost use Rattle.equality.specs.Marked.{Joins, Sides, Whole, Grown};

@@ -1,5 +1,5 @@
 //! The answer to a query: the first denial whose terms are joined, and its core.
-ghost use Rattle.std.specs.Prelude.{◌≡◌, ℕ, ◌+◌, ◌<◌, ◌≤◌, false, ◌&&◌, ◌||◌, length, pos, Some, Ok, ◌==◌, slice_index_or};
+ghost use Rattle.std.specs.Prelude.{◌≡◌, ℕ, ◌<◌, ◌≤◌, false, ◌&&◌, ◌||◌, length, pos, Some, Ok, ◌==◌, slice_index_or};
 ghost use Rattle.theory.specs.Literals.{claim};
 ghost use Rattle.theory.specs.Calls.{over};
 ghost use Rattle.congruence.specs.Merges.{label, needed, pair_of, log_of};

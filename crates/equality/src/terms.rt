@@ -1,5 +1,5 @@
 //! A checked table of terms, with an index of equal heads.
-ghost use Rattle.std.specs.Prelude.{◌≡◌, ℕ, ◌<◌, ◌≤◌, None, length, slice_index_or};
+ghost use Rattle.std.specs.Prelude.{◌≡◌, ◌<◌, ◌≤◌, None, length};
 ghost use Rattle.theory.specs.Terms.{Arities};
 ghost use Rattle.congruence.specs.Table.{Lower};
 ghost use Rattle.equality.specs.Index.{same_head, LastLike, nearest, Indexed};

@@ -4,11 +4,11 @@
 mod answers;
 
 use answers::{Unanswered, answers};
-use book::{Fault, Unread};
+use book::Unread;
 use std::io::Read;
 use std::process::ExitCode;
 use std::{env, fmt, fs, io};
-use theory::{Refusal, Unmade};
+use theory::Unmade;
 
 const USAGE: &str = "usage:
     inkstep ask FILE    answer the calls of a book; - is standard input

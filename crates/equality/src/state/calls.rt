@@ -1,5 +1,5 @@
 //! Equality as a theory.
-ghost use Rattle.std.specs.Prelude.{ℕ, List, length};
+ghost use Rattle.std.specs.Prelude.{List};
 ghost use Rattle.std.proofs.Common.{subst};
 ghost use Rattle.theory.specs.Literals.{Proper};
 ghost use Rattle.theory.specs.Asserted.{literals_of};

@@ -2,10 +2,10 @@ use Rattle.std.proofs.Common.{◌≡◌, ℕ, ◌+◌, ◌-◌, ◌*◌, ◌<◌
 use borrow.Rule.Slice.PartMut.{put_mid}
 use Rattle.std.specs.Vec.{with_items}
 use Rattle.std.proofs.lemmas.List.{with_items_is}
-use Rattle.difference.specs.declared.bound.Bound.{Bound}
 use Rattle.theory.specs.Literals.{has}
-use Rattle.difference.specs.Settling.{around, fits, clash, outcome}
 use Rattle.theory.specs.Positions.{marked}
+use Rattle.difference.specs.declared.bound.Bound.{Bound}
+use Rattle.difference.specs.Settling.{around, fits, clash, outcome}
 use Rattle.distance.specs.Rows.{part}
 use Rattle.distance.proofs.Parts.{part_written, part_long, front_kept}
 use Rattle.distance.proofs.Marking.{core_marked}

@@ -2,9 +2,9 @@
 use Rattle.std.proofs.Common.{◌≡◌, ℕ, ◌<◌, Bool, true, ◌||◌, List, length, set, sym, ap, ◌∙◌, subst, arith}
 use Rattle.std.proofs.lemmas.List.{get_or_default}
 use Rattle.theory.specs.declared.term.Term.{Term}
+use Rattle.theory.specs.Terms.{at}
 use Rattle.congruence.specs.declared.step.Step.{Step}
 use Rattle.congruence.specs.declared.step.Reason.TheVariants.{Congruence}
-use Rattle.theory.specs.Terms.{at}
 use Rattle.congruence.specs.Table.{arg}
 use Rattle.congruence.specs.Congruence.{Congruent}
 use Rattle.congruence.specs.Merges.{any_below, needed}
