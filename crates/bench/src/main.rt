@@ -3,7 +3,7 @@
 
 use anyhow::anyhow;
 use congruence::Claim;
-use equality::make;
+use difference::Bound;
 use std::alloc::{AllocError, Global};
 use std::time::Instant;
 use std::{env, iter};
@@ -16,6 +16,10 @@ fn constant(symbol: u16) -> Term {
         arity: 0,
         args: [0, 0],
     }
+}
+
+fn constants(heap: Global) -> Result<Vec<Term>, AllocError> {
+    (0..256u16).map(constant).collect(heap)
 }
 
 /// A symbol of one argument, applied to a term.
@@ -31,14 +35,34 @@ fn same(left: u16, right: u16) -> Claim {
     Claim { left, right }
 }
 
-/// Constants with a chain of claims between neighbours, and one claim between its ends.
-fn chain(heap: Global) -> Result<(Vec<Term>, Vec<Claim>), AllocError> {
-    let terms = (0..256u16).map(constant).collect(heap)?;
-    let claims = (1..128u16)
+fn apart(term: u16, base: u16, most: i32) -> Bound {
+    Bound { term, base, most }
+}
+
+/// A chain of equalities between neighbours, and one between its ends.
+fn chain(heap: Global) -> Result<Vec<Claim>, AllocError> {
+    (1..128u16)
         .map(|right| same(right.saturating_sub(1), right))
         .chain(iter::once(same(0, 127)))
-        .collect(heap)?;
-    Ok((terms, claims))
+        .collect(heap)
+}
+
+/// A chain of terms, each one below the next, so that each claim lowers all terms before it; the denial of the last claim
+/// has the chain come back one too low.
+fn ring(heap: Global) -> Result<Vec<Bound>, AllocError> {
+    (1..128u16)
+        .map(|base| apart(base.saturating_sub(1), base, -1))
+        .chain(iter::once(apart(0, 127, -127)))
+        .collect(heap)
+}
+
+/// One term below 127 others, each claim by one more, so that each claim lowers just that term; the denial of the last has
+/// it above one of them.
+fn star(heap: Global) -> Result<Vec<Bound>, AllocError> {
+    (1..128u16)
+        .map(|base| apart(0, base, -i32::from(base)))
+        .chain(iter::once(apart(0, 127, -127)))
+        .collect(heap)
 }
 
 /// Two towers of one symbol over two constants, and the claims that their feet and their tops are equal.
@@ -95,9 +119,19 @@ fn run<T: Theory + Drop>(
 }
 
 fn main(rt: HostRuntime) -> anyhow::Result<()> {
+    let heap = rt.alloc();
     let timed = env::args(&rt)?.count() > 1;
-    let (terms, claims) = chain(rt.alloc())?;
-    run(&rt, "chain", timed, make(rt.alloc(), &terms, &claims), 127)?;
-    let (terms, claims) = towers(rt.alloc())?;
-    run(&rt, "towers", timed, make(rt.alloc(), &terms, &claims), 1)
+    let terms = constants(heap)?;
+    let claims = chain(heap)?;
+    let made = equality::make(heap, &terms, &claims);
+    run(&rt, "chain", timed, made, 127)?;
+    let (nested, claims) = towers(heap)?;
+    let made = equality::make(heap, &nested, &claims);
+    run(&rt, "towers", timed, made, 1)?;
+    let bounds = ring(heap)?;
+    let made = distance::make(heap, &terms, &bounds);
+    run(&rt, "ring", timed, made, 127)?;
+    let bounds = star(heap)?;
+    let made = distance::make(heap, &terms, &bounds);
+    run(&rt, "star", timed, made, 127)
 }

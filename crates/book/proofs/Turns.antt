@@ -8,7 +8,7 @@ use Rattle.book.specs.declared.reading.Stage.{Stage}
 use Rattle.book.specs.declared.reading.Stage.TheVariants.{Start, Terms, Claims, Calls}
 use Rattle.book.specs.Words.{words_of}
 use Rattle.book.specs.Lines.{and_then, said_by}
-use Rattle.book.specs.Books.{Contents, adds, stage_after, at_line, turn, ended, reads, Tells}
+use Rattle.book.specs.Books.{Contents, adds, stage_after, theory_at, at_line, turn, ended, reads, Tells}
 
 -- ---- replies
 
@@ -21,7 +21,7 @@ tells_on (Err (Faulty d)) f m NoMemory g k h t on = absurd (let z : ◌≡◌ {A
 
 -- ---- one line
 
-pub turn_done : (n : ℕ) (s : Stage) (b : Contents) (line : List ℕ) (said : Said) (next : Stage) → said_by (words_of line) ≡ Ok said → stage_after s said ≡ Ok next → turn n s b line ≡ Ok (next, adds n b said)
+pub turn_done : (n : ℕ) (s : Stage) (b : Contents) (line : List ℕ) (said : Said) (next : Stage) → said_by (theory_at s b) (words_of line) ≡ Ok said → stage_after s said ≡ Ok next → turn n s b line ≡ Ok (next, adds n b said)
 unfolding turn
 turn_done n s b line said next e g =
     ap (λ r. at_line n (and_then r (λ said. and_then (stage_after s said) (λ next. Ok (next, adds n b said))))) e ∙ ap (λ r. at_line n (and_then r (λ next. Ok (next, adds n b said)))) g

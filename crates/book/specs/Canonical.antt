@@ -1,13 +1,18 @@
 -- The canonical text of a book: a line for each item, with single blanks. Assumes nothing.
-use Rattle.std.specs.Prelude.{◌≡◌, ℕ, ◌+◌, ◌^◌, ◌<◌, ◌≤◌, List, [], ◌∷◌, ◌++◌, map, length, take, Some, None, Ok, codes, decimal, Option}
+use Rattle.std.specs.Prelude.{◌≡◌, ℕ, ◌+◌, ◌^◌, ◌<◌, ◌≤◌, List, [], ◌∷◌, ◌++◌, map, length, take, pos, negsuc, ◌≤ℤ◌, Some, None, Ok, codes, decimal, Option}
+use Rattle.std.specs.Fmt.{signed_decimal}
 use Rattle.std.specs.List.{All}
 use Rattle.theory.specs.declared.term.Term.{Term}
 use Rattle.congruence.specs.declared.claim.Claim.{Claim}
+use Rattle.difference.specs.declared.bound.Bound.{Bound}
 use Rattle.book.specs.declared.contents.Asked.{Asked}
 use Rattle.book.specs.declared.contents.Call.{Call}
 use Rattle.book.specs.declared.contents.Call.TheVariants.{Assert, TakeBack, Query, Write, Trial, Close}
+use Rattle.book.specs.declared.word.Name.TheVariants.{Sort as sort}
+use Rattle.book.specs.declared.word.Sort.{Sort}
+use Rattle.book.specs.Words.{spelling}
 use Rattle.book.specs.Lines.{first_two}
-use Rattle.book.specs.Books.{meant}
+use Rattle.book.specs.Books.{ClaimList, equals, bounds, theory_of, meant}
 
 -- ---- Text
 
@@ -24,14 +29,22 @@ text_of (l ∷ ls) = spaced l ++ 10 ∷ text_of ls
 
 -- ---- Lines, as words
 
-abbrev pub theory_line : List (List ℕ)
-theory_line = codes "theory" ∷ codes "equality" ∷ []
+abbrev pub theory_line : Sort → List (List ℕ)
+theory_line o = codes "theory" ∷ spelling (sort o) ∷ []
 
 abbrev pub term_line : Term → List (List ℕ)
 term_line t = codes "term" ∷ decimal t.symbol ∷ map decimal (take t.arity t.args)
 
 abbrev pub claim_line : Claim → List (List ℕ)
 claim_line k = codes "claim" ∷ decimal k.left ∷ decimal k.right ∷ []
+
+abbrev pub bound_line : Bound → List (List ℕ)
+bound_line k = codes "claim" ∷ decimal k.term ∷ decimal k.base ∷ signed_decimal k.most ∷ []
+
+-- the lines of the claims of either theory
+abbrev pub claim_lines : ClaimList → List (List (List ℕ))
+claim_lines (equals cs) = map claim_line cs
+claim_lines (bounds bs) = map bound_line bs
 
 abbrev pub length_word : Option ℕ → List (List ℕ)
 length_word None = []
@@ -45,8 +58,8 @@ call_line (Write len) = codes "call" ∷ codes "write" ∷ length_word len
 call_line (Trial l) = codes "call" ∷ codes "trial" ∷ decimal l ∷ []
 call_line Close = codes "call" ∷ codes "close" ∷ []
 
-abbrev pub book_lines : List Term → List Claim → List Call → List (List (List ℕ))
-book_lines ts cs ks = theory_line ∷ (map term_line ts ++ (map claim_line cs ++ map call_line ks))
+abbrev pub book_lines : List Term → ClaimList → List Call → List (List (List ℕ))
+book_lines ts cs ks = theory_line (theory_of cs) ∷ (map term_line ts ++ (claim_lines cs ++ map call_line ks))
 
 -- ---- What can be written: numbers that fit their fields, and at most two arguments, with 0 past them
 
@@ -55,6 +68,15 @@ TermFits t = (t.symbol < 65536) × (t.arity ≤ 2) × (t.args ≡ first_two (tak
 
 abbrev pub ClaimFits : Claim → Type 0
 ClaimFits k = (k.left < 65536) × (k.right < 65536)
+
+-- the constant from -2,147,483,648 to 2,147,483,647
+abbrev pub BoundFits : Bound → Type 0
+BoundFits k = (k.term < 65536) × (k.base < 65536) × (negsuc 2147483647 ≤ℤ k.most) × (k.most ≤ℤ pos 2147483647)
+
+-- all claims of either theory fit
+abbrev pub ClaimsFit : ClaimList → Type 0
+ClaimsFit (equals cs) = All ClaimFits cs
+ClaimsFit (bounds bs) = All BoundFits bs
 
 abbrev pub LengthFits : Option ℕ → Type 0
 LengthFits None = Unit {0}
@@ -75,6 +97,11 @@ abbrev pub numbered : ℕ → List Call → List Asked
 numbered n [] = []
 numbered n (k ∷ ks) = record { line = n; call = k } ∷ numbered (n + 1) ks
 
--- the canonical text of a book means that book
+-- how many claims there are
+abbrev pub claim_count : ClaimList → ℕ
+claim_count (equals cs) = length cs
+claim_count (bounds bs) = length bs
+
+-- the canonical text of a book of either theory means that book
 abbrev pub ReadsBack : Type 0
-ReadsBack = (ts : List Term) (cs : List Claim) (ks : List Call) → All TermFits ts → All ClaimFits cs → All CallFits ks → meant (text_of (book_lines ts cs ks)) ≡ Ok (record { terms = ts; claims = cs; calls = numbered (2 + (length ts + length cs)) ks })
+ReadsBack = (ts : List Term) (cs : ClaimList) (ks : List Call) → All TermFits ts → ClaimsFit cs → All CallFits ks → meant (text_of (book_lines ts cs ks)) ≡ Ok (record { terms = ts; claims = cs; calls = numbered (2 + (length ts + claim_count cs)) ks })

@@ -1,19 +1,21 @@
 -- What the words of a line say. Assumes nothing.
-use Rattle.std.specs.Prelude.{ℕ, min, cond, List, [], ◌∷◌, length, Some, None, Ok, Err, Option, Result, nat_le, slice_index}
+use Rattle.std.specs.Prelude.{ℕ, min, cond, List, [], ◌∷◌, length, ℤ, pos, neg_ℤ, Some, None, Ok, Err, Option, Result, nat_le, slice_index}
 use Rattle.book.specs.declared.contents.Call.{Call as Calling}
 use Rattle.book.specs.declared.contents.Call.TheVariants.{Assert as assert, TakeBack as take_back, Query as query, Write as write, Trial as trial, Close as close}
 use Rattle.book.specs.declared.fault.Wrong.{Wrong}
-use Rattle.book.specs.declared.fault.Wrong.TheVariants.{NoSuchLine, NoSuchTheory, NoSuchCall, NoNumber, TooLarge, Missing, TooMany}
+use Rattle.book.specs.declared.fault.Wrong.TheVariants.{NoSuchLine, NoSuchTheory, NoSuchCall, NoNumber, TooLarge, OutOfRange, Missing, TooMany, NoTheory}
 use Rattle.book.specs.declared.line.Said.{Said}
-use Rattle.book.specs.declared.line.Said.TheVariants.{Nothing as nothing, Theory as theory, Term as term, Claim as claim, Call as call}
+use Rattle.book.specs.declared.line.Said.TheVariants.{Nothing as nothing, Theory as theory, Term as term, Claim as claim, Bound as bound, Call as call}
 use Rattle.book.specs.declared.word.Name.{Name}
-use Rattle.book.specs.declared.word.Name.TheVariants.{Kind as kind, Ask as ask, Equality}
+use Rattle.book.specs.declared.word.Name.TheVariants.{Kind as kind, Ask as ask, Sort as sort}
 use Rattle.book.specs.declared.word.Kind.{Kind}
 use Rattle.book.specs.declared.word.Kind.TheVariants.{Theory, Term, Claim, Call}
 use Rattle.book.specs.declared.word.Ask.{Ask}
 use Rattle.book.specs.declared.word.Ask.TheVariants.{Assert, TakeBack, Query, Write, Trial, Close}
+use Rattle.book.specs.declared.word.Sort.{Sort}
+use Rattle.book.specs.declared.word.Sort.TheVariants.{Equality, Distance}
 use Rattle.book.specs.declared.word.Word.{Word}
-use Rattle.book.specs.declared.word.Word.TheVariants.{Known, Number, Huge, Other}
+use Rattle.book.specs.declared.word.Word.TheVariants.{Known, Number, Negative, Other}
 
 -- goes on with a value, unless there is a fault
 abbrev pub and_then : {A B E : Type 0} → Result A E → (A → Result B E) → Result B E
@@ -24,8 +26,9 @@ and_then (Err e) f = Err e
 
 -- a number up to most
 abbrev pub number_to : ℕ → Word → Result ℕ Wrong
-number_to most (Number n) = cond (nat_le n most) (Ok n) (Err (TooLarge most))
-number_to most Huge = Err (TooLarge most)
+number_to most (Number (Some n)) = cond (nat_le n most) (Ok n) (Err (TooLarge most))
+number_to most (Number None) = Err (TooLarge most)
+number_to most (Negative n) = Err NoNumber
 number_to most (Known n) = Err NoNumber
 number_to most Other = Err NoNumber
 
@@ -36,6 +39,15 @@ short_of w = number_to 65535 w
 -- a number of 64 bits
 abbrev pub long_of : Word → Result ℕ Wrong
 long_of w = number_to 18446744073709551615 w
+
+-- a signed number of 32 bits
+abbrev pub signed_of : Word → Result ℤ Wrong
+signed_of (Number (Some n)) = cond (nat_le n 2147483647) (Ok (pos n)) (Err OutOfRange)
+signed_of (Number None) = Err OutOfRange
+signed_of (Negative (Some n)) = cond (nat_le n 2147483648) (Ok (neg_ℤ (pos n))) (Err OutOfRange)
+signed_of (Negative None) = Err OutOfRange
+signed_of (Known n) = Err NoNumber
+signed_of Other = Err NoNumber
 
 -- any number of 16-bit numbers
 unfoldable pub shorts_of : List Word → Result (List ℕ) Wrong
@@ -67,17 +79,17 @@ close_of (w ∷ ws) = Err (TooMany (ask Close))
 
 -- ---- The lines
 
--- `theory equality`
+-- `theory equality` or `theory distance`
 abbrev pub theory_by : Word → Result Said Wrong
-theory_by (Known Equality) = Ok theory
+theory_by (Known (sort o)) = Ok (theory o)
 theory_by (Known (kind k)) = Err NoSuchTheory
 theory_by (Known (ask a)) = Err NoSuchTheory
 theory_by (Number n) = Err NoSuchTheory
-theory_by Huge = Err NoSuchTheory
+theory_by (Negative n) = Err NoSuchTheory
 theory_by Other = Err NoSuchTheory
 
-abbrev pub theory_of : List Word → Result Said Wrong
-theory_of ws = and_then (only_of (kind Theory) ws) theory_by
+abbrev pub theory_line_of : List Word → Result Said Wrong
+theory_line_of ws = and_then (only_of (kind Theory) ws) theory_by
 
 -- `term SYMBOL ARG ..`: the record keeps how many arguments there are, up to 255, and the first two
 abbrev pub term_of : List Word → Result Said Wrong
@@ -85,11 +97,25 @@ term_of [] = Err (Missing (kind Term))
 term_of (s ∷ ws) = and_then (short_of s) (λ symbol. and_then (shorts_of ws) (λ ns. Ok (term (record { symbol = symbol; arity = min (length ws) 255; args = first_two ns }))))
 
 -- `claim A B`
-abbrev pub claim_of : List Word → Result Said Wrong
-claim_of [] = Err (Missing (kind Claim))
-claim_of (a ∷ []) = Err (Missing (kind Claim))
-claim_of (a ∷ b ∷ []) = and_then (short_of a) (λ left. and_then (short_of b) (λ right. Ok (claim (record { left = left; right = right }))))
-claim_of (a ∷ b ∷ w ∷ ws) = Err (TooMany (kind Claim))
+abbrev pub equal_of : List Word → Result Said Wrong
+equal_of [] = Err (Missing (kind Claim))
+equal_of (a ∷ []) = Err (Missing (kind Claim))
+equal_of (a ∷ b ∷ []) = and_then (short_of a) (λ left. and_then (short_of b) (λ right. Ok (claim (record { left = left; right = right }))))
+equal_of (a ∷ b ∷ w ∷ ws) = Err (TooMany (kind Claim))
+
+-- `claim A B C`
+abbrev pub bound_of : List Word → Result Said Wrong
+bound_of [] = Err (Missing (kind Claim))
+bound_of (a ∷ []) = Err (Missing (kind Claim))
+bound_of (a ∷ b ∷ []) = Err (Missing (kind Claim))
+bound_of (a ∷ b ∷ c ∷ []) = and_then (short_of a) (λ term. and_then (short_of b) (λ base. and_then (signed_of c) (λ most. Ok (bound (record { term = term; base = base; most = most })))))
+bound_of (a ∷ b ∷ c ∷ w ∷ ws) = Err (TooMany (kind Claim))
+
+-- a claim line goes by the book's theory, so it is at fault before the theory line
+abbrev pub claim_of : Option Sort → List Word → Result Said Wrong
+claim_of None ws = Err NoTheory
+claim_of (Some Equality) ws = equal_of ws
+claim_of (Some Distance) ws = bound_of ws
 
 -- `assert L`, `takeback K`, `query [LEN]`, `write [LEN]`, `trial L`, `close`
 abbrev pub called_by : Ask → List Word → Result Calling Wrong
@@ -105,23 +131,23 @@ abbrev pub call_of : List Word → Result Said Wrong
 call_of [] = Err (Missing (kind Call))
 call_of (Known (ask a) ∷ ws) = and_then (called_by a ws) (λ asked. Ok (call asked))
 call_of (Known (kind k) ∷ ws) = Err NoSuchCall
-call_of (Known Equality ∷ ws) = Err NoSuchCall
+call_of (Known (sort o) ∷ ws) = Err NoSuchCall
 call_of (Number n ∷ ws) = Err NoSuchCall
-call_of (Huge ∷ ws) = Err NoSuchCall
+call_of (Negative n ∷ ws) = Err NoSuchCall
 call_of (Other ∷ ws) = Err NoSuchCall
 
-abbrev pub line_by : Kind → List Word → Result Said Wrong
-line_by Theory ws = theory_of ws
-line_by Term ws = term_of ws
-line_by Claim ws = claim_of ws
-line_by Call ws = call_of ws
+abbrev pub line_by : Option Sort → Kind → List Word → Result Said Wrong
+line_by of Theory ws = theory_line_of ws
+line_by of Term ws = term_of ws
+line_by of Claim ws = claim_of of ws
+line_by of Call ws = call_of ws
 
--- a line goes by its first word
-abbrev pub said_by : List Word → Result Said Wrong
-said_by [] = Ok nothing
-said_by (Known (kind k) ∷ ws) = line_by k ws
-said_by (Known (ask a) ∷ ws) = Err NoSuchLine
-said_by (Known Equality ∷ ws) = Err NoSuchLine
-said_by (Number n ∷ ws) = Err NoSuchLine
-said_by (Huge ∷ ws) = Err NoSuchLine
-said_by (Other ∷ ws) = Err NoSuchLine
+-- a line goes by its first word, in a book of a theory or before its theory line
+abbrev pub said_by : Option Sort → List Word → Result Said Wrong
+said_by of [] = Ok nothing
+said_by of (Known (kind k) ∷ ws) = line_by of k ws
+said_by of (Known (ask a) ∷ ws) = Err NoSuchLine
+said_by of (Known (sort o) ∷ ws) = Err NoSuchLine
+said_by of (Number n ∷ ws) = Err NoSuchLine
+said_by of (Negative n ∷ ws) = Err NoSuchLine
+said_by of (Other ∷ ws) = Err NoSuchLine

@@ -1,14 +1,15 @@
 -- The words of a line. Assumes nothing.
-use Rattle.std.specs.Prelude.{ℕ, ◌+◌, ◌-◌, ◌*◌, ◌^◌, Bool, not, cond, ◌==◌, List, [], ◌∷◌, map, filter, length, Some, None, codes, Option, nat_lt}
+use Rattle.std.specs.Prelude.{ℕ, ◌+◌, ◌-◌, ◌*◌, ◌^◌, Bool, not, cond, ◌&&◌, ◌==◌, List, [], ◌∷◌, map, filter, length, Some, None, codes, Option, nat_lt}
 use Rattle.std.specs.Char.{is_ascii_digit}
 use Rattle.std.specs.List.{fold, find, list_all, slice_split, before_first}
 use Rattle.std.specs.Str.{bytes_eq}
 use Rattle.book.specs.declared.word.Name.{Name}
-use Rattle.book.specs.declared.word.Name.TheVariants.{Kind as kind, Ask as ask, Equality}
+use Rattle.book.specs.declared.word.Name.TheVariants.{Kind as kind, Ask as ask, Sort as sort}
 use Rattle.book.specs.declared.word.Kind.TheVariants.{Theory, Term, Claim, Call}
 use Rattle.book.specs.declared.word.Ask.TheVariants.{Assert, TakeBack, Query, Write, Trial, Close}
+use Rattle.book.specs.declared.word.Sort.TheVariants.{Equality, Distance}
 use Rattle.book.specs.declared.word.Word.{Word}
-use Rattle.book.specs.declared.word.Word.TheVariants.{Known, Number, Huge, Other}
+use Rattle.book.specs.declared.word.Word.TheVariants.{Known, Number, Negative, Other}
 use Rattle.book.specs.Pieces.{hash, blank}
 
 -- how a name is written
@@ -23,12 +24,13 @@ spelling (ask Query) = codes "query"
 spelling (ask Write) = codes "write"
 spelling (ask Trial) = codes "trial"
 spelling (ask Close) = codes "close"
-spelling Equality = codes "equality"
+spelling (sort Equality) = codes "equality"
+spelling (sort Distance) = codes "distance"
 
 abbrev pub names : List Name
 names =
     kind Theory ∷ kind Term ∷ kind Claim ∷ kind Call ∷ ask Assert ∷ ask TakeBack ∷ ask Query ∷ ask Write ∷ ask Trial
-    ∷ ask Close ∷ Equality ∷ []
+    ∷ ask Close ∷ sort Equality ∷ sort Distance ∷ []
 
 -- the first of some names that a word spells
 unfoldable pub first_spelled : List Name → List ℕ → Option Name
@@ -50,12 +52,26 @@ value_after n w = fold (λ m b. m * 10 + (b - 48)) n w
 abbrev pub held : ℕ → Option ℕ
 held n = cond (nat_lt n (2 ^ 64)) (Some n) None
 
-abbrev pub sized : Option ℕ → Word
-sized (Some n) = Number n
-sized None = Huge
+-- what has a byte at all
+abbrev pub filled : List ℕ → Bool
+filled w = not (length w == 0)
 
+-- one digit or more, and nothing else
+abbrev pub numeral : List ℕ → Bool
+numeral w = filled w && digits w
+
+-- a word that is not signed
+abbrev pub natural_of : List ℕ → Word
+natural_of w = cond (numeral w) (Number (held (value_after 0 w))) Other
+
+-- what stands after a `-`
+abbrev pub negative_of : List ℕ → Word
+negative_of w = cond (numeral w) (Negative (held (value_after 0 w))) Other
+
+-- digits, or a `-` and digits
 abbrev pub number_of : List ℕ → Word
-number_of w = cond (digits w) (sized (held (value_after 0 w))) Other
+number_of [] = Other
+number_of (b ∷ bs) = cond (b == 45) (negative_of bs) (natural_of (b ∷ bs))
 
 abbrev pub name_or : Option Name → Word → Word
 name_or (Some n) w = Known n
@@ -64,9 +80,6 @@ name_or None w = w
 -- what one word is
 abbrev pub word_of : List ℕ → Word
 word_of w = name_or (name_of w) (number_of w)
-
-abbrev pub filled : List ℕ → Bool
-filled w = not (length w == 0)
 
 -- the words among bytes, with blanks between them
 unfoldable pub words_among : List ℕ → List Word

@@ -1,5 +1,11 @@
 //! What a book gives.
+ghost use Rattle.std.specs.Prelude.{◌≡◌};
+ghost use Rattle.book.specs.Books.{claims_of, theory_of, no_claims};
+
+use crate::word::Sort;
 use congruence::Claim;
+use difference::Bound;
+use std::alloc::Global;
 use std::fmt;
 use theory::{Literal, Term};
 
@@ -36,10 +42,39 @@ pub struct Asked {
     pub call: Call,
 }
 
+/// The claims of a book in their order, as its theory has them.
+#[derive(Drop)]
+pub enum Claims {
+    Equality(Vec<Claim>),
+    Distance(Vec<Bound>),
+}
+
+impl Claims {
+    /// No claims of a theory.
+    pub fn none(heap: Global, theory: Sort) -> Claims
+        ensures { claims_of result ≡ no_claims theory }
+    {
+        match theory {
+            Sort::Equality => Claims::Equality(Vec::new(heap)),
+            Sort::Distance => Claims::Distance(Vec::new(heap)),
+        }
+    }
+
+    /// The theory that the claims are of.
+    pub fn theory(&self) -> Sort
+        ensures { result ≡ theory_of (claims_of self.now) }
+    {
+        match self {
+            Claims::Equality(_) => Sort::Equality,
+            Claims::Distance(_) => Sort::Distance,
+        }
+    }
+}
+
 /// The terms, claims and calls of a book, each in their order.
 #[derive(Drop)]
 pub struct Book {
     pub terms: Vec<Term>,
-    pub claims: Vec<Claim>,
+    pub claims: Claims,
     pub calls: Vec<Asked>,
 }

@@ -14,6 +14,7 @@ pub enum Wrong {
     NoSuchCall,
     NoNumber,
     TooLarge { most: usize },
+    OutOfRange,
     Missing { after: Name },
     TooMany { after: Name },
     NoTheory,
@@ -29,13 +30,17 @@ impl fmt::Display for Wrong {
                 f,
                 "a line begins with `theory`, `term`, `claim` or `call`"
             ),
-            Wrong::NoSuchTheory => write!(f, "the only theory is `equality`"),
+            Wrong::NoSuchTheory => write!(f, "a theory is `equality` or `distance`"),
             Wrong::NoSuchCall => write!(
                 f,
                 "a call is `assert`, `takeback`, `query`, `write`, `trial` or `close`"
             ),
             Wrong::NoNumber => write!(f, "a word stands where a number is wanted"),
             Wrong::TooLarge { most } => write!(f, "a number does not fit: at most {most}"),
+            Wrong::OutOfRange => {
+                let (least, most) = (i32::MIN, i32::MAX);
+                write!(f, "a number does not fit: from {least} to {most}")
+            }
             Wrong::Missing {
                 after: Name::Kind(Kind::Theory),
             } => write!(f, "the name of a theory is missing after `theory`"),
@@ -44,7 +49,10 @@ impl fmt::Display for Wrong {
             } => write!(f, "the name of a call is missing after `call`"),
             Wrong::Missing { after } => write!(f, "a number is missing after `{after}`"),
             Wrong::TooMany { after } => write!(f, "there are words too many after `{after}`"),
-            Wrong::NoTheory => write!(f, "a book begins with the line `theory equality`"),
+            Wrong::NoTheory => write!(
+                f,
+                "a book begins with the line `theory equality` or `theory distance`"
+            ),
             Wrong::SecondTheory => write!(f, "a second theory line"),
             Wrong::LateTerm => write!(f, "a term line stands after a claim or a call"),
             Wrong::LateClaim => write!(f, "a claim line stands after a call"),

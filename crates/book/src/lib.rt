@@ -1,4 +1,4 @@
-//! Books: texts that give a table of terms and claims, and the calls to make on their theory.
+//! Books: texts that give a theory with its terms and claims, and the calls to make on it.
 #![tactic(auto)]
 
 ghost use Rattle.book.specs.Canonical.{ReadsBack};
@@ -10,7 +10,7 @@ mod reading;
 mod scan;
 pub mod word;
 
-pub use contents::{Asked, Book, Call};
+pub use contents::{Asked, Book, Call, Claims};
 pub use fault::{Fault, Unread, Wrong};
 pub use reading::read;
 

@@ -1,20 +1,22 @@
 //! What a line says.
 ghost use Rattle.std.specs.Prelude.{◌≡◌, Ok};
-ghost use Rattle.book.specs.Lines.{and_then, number_to, short_of, long_of, shorts_of, first_two, only_of, place_of, theory_of, term_of, claim_of, called_by, call_of, line_by, said_by};
+ghost use Rattle.book.specs.Lines.{and_then, number_to, short_of, long_of, signed_of, shorts_of, first_two, only_of, place_of, theory_line_of, term_of, equal_of, bound_of, claim_of, called_by, call_of, line_by, said_by};
 
 use crate::contents::Call;
 use crate::fault::Wrong;
-use crate::word::{Ask, Kind, Name, Word};
+use crate::word::{Ask, Kind, Name, Sort, Word};
 use congruence::Claim;
+use difference::Bound;
 use theory::Term;
 
 /// What one line says.
 #[derive(Clone, Copy, PartialEq, Eq, Debug)]
 pub enum Said {
     Nothing,
-    Theory,
+    Theory(Sort),
     Term(Term),
     Claim(Claim),
+    Bound(Bound),
     Call(Call),
 }
 
@@ -23,9 +25,9 @@ fn number(word: Word, most: usize) -> Result<usize, Wrong>
     ensures { result ≡ number_to most word }
 {
     match word {
-        Word::Number(n) if n <= most => Ok(n),
-        Word::Number(_) | Word::Huge => Err(Wrong::TooLarge { most }),
-        Word::Known(_) | Word::Other => Err(Wrong::NoNumber),
+        Word::Number(Some(n)) if n <= most => Ok(n),
+        Word::Number(_) => Err(Wrong::TooLarge { most }),
+        Word::Known(_) | Word::Negative(_) | Word::Other => Err(Wrong::NoNumber),
     }
 }
 
@@ -43,6 +45,19 @@ fn long(word: Word) -> Result<usize, Wrong>
     ensures { result ≡ long_of word }
 {
     number(word, usize::MAX)
+}
+
+/// A signed number of 32 bits.
+fn signed(word: Word) -> Result<i32, Wrong>
+    ensures { result ≡ signed_of word }
+{
+    let fitting = match word {
+        Word::Number(Some(n)) => i32::try_from(n).ok(),
+        Word::Negative(Some(n)) => i64::try_from(n).ok().and_then(|n| i32::try_from(-n).ok()),
+        Word::Number(None) | Word::Negative(None) => None,
+        Word::Known(_) | Word::Other => return Err(Wrong::NoNumber),
+    };
+    fitting.ok_or(Wrong::OutOfRange)
 }
 
 /// The one word after a name.
@@ -67,10 +82,10 @@ fn place(after: Name, words: &[Word]) -> Result<Option<u16>, Wrong>
 }
 
 fn theory(words: &[Word]) -> Result<Said, Wrong>
-    ensures { result ≡ theory_of words.now }
+    ensures { result ≡ theory_line_of words.now }
 {
     match only(Name::Kind(Kind::Theory), words)? {
-        Word::Known(Name::Equality) => Ok(Said::Theory),
+        Word::Known(Name::Sort(theory)) => Ok(Said::Theory(theory)),
         _ => Err(Wrong::NoSuchTheory),
     }
 }
@@ -121,8 +136,9 @@ fn term(words: &[Word]) -> Result<Said, Wrong>
     }
 }
 
-fn claim(words: &[Word]) -> Result<Said, Wrong>
-    ensures { result ≡ claim_of words.now }
+/// A claim that two terms are equal.
+fn equal(words: &[Word]) -> Result<Said, Wrong>
+    ensures { result ≡ equal_of words.now }
 {
     match words {
         [left, right] => Ok(Said::Claim(Claim {
@@ -135,6 +151,36 @@ fn claim(words: &[Word]) -> Result<Said, Wrong>
         _ => Err(Wrong::TooMany {
             after: Name::Kind(Kind::Claim),
         }),
+    }
+}
+
+/// A claim that bounds the distance of two terms.
+fn bound(words: &[Word]) -> Result<Said, Wrong>
+    ensures { result ≡ bound_of words.now }
+{
+    match words {
+        [term, base, most] => Ok(Said::Bound(Bound {
+            term: short(*term)?,
+            base: short(*base)?,
+            most: signed(*most)?,
+        })),
+        [] | [_] | [_, _] => Err(Wrong::Missing {
+            after: Name::Kind(Kind::Claim),
+        }),
+        _ => Err(Wrong::TooMany {
+            after: Name::Kind(Kind::Claim),
+        }),
+    }
+}
+
+/// A claim of the book's theory.
+fn claim(of: Option<Sort>, words: &[Word]) -> Result<Said, Wrong>
+    ensures { result ≡ claim_of of words.now }
+{
+    match of {
+        Some(Sort::Equality) => equal(words),
+        Some(Sort::Distance) => bound(words),
+        None => Err(Wrong::NoTheory),
     }
 }
 
@@ -167,24 +213,24 @@ fn call(words: &[Word]) -> Result<Said, Wrong>
     }
 }
 
-fn named(kind: Kind, words: &[Word]) -> Result<Said, Wrong>
-    ensures { result ≡ line_by kind words.now }
+fn named(of: Option<Sort>, kind: Kind, words: &[Word]) -> Result<Said, Wrong>
+    ensures { result ≡ line_by of kind words.now }
 {
     match kind {
         Kind::Theory => theory(words),
         Kind::Term => term(words),
-        Kind::Claim => claim(words),
+        Kind::Claim => claim(of, words),
         Kind::Call => call(words),
     }
 }
 
-/// What the words of a line say.
-pub fn meaning(words: &[Word]) -> Result<Said, Wrong>
-    ensures { result ≡ said_by words.now }
+/// What the words of a line say in a book of a theory, or before its theory line.
+pub fn meaning(of: Option<Sort>, words: &[Word]) -> Result<Said, Wrong>
+    ensures { result ≡ said_by of words.now }
 {
     match words {
         [] => Ok(Said::Nothing),
-        [Word::Known(Name::Kind(kind)), rest @ ..] => named(*kind, rest),
+        [Word::Known(Name::Kind(kind)), rest @ ..] => named(of, *kind, rest),
         _ => Err(Wrong::NoSuchLine),
     }
 }

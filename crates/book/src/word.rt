@@ -1,7 +1,7 @@
 //! The words of a line.
 ghost use Rattle.std.specs.Prelude.{◌≡◌, IfOk};
 ghost use Rattle.std.specs.Str.{bytes_eq};
-ghost use Rattle.book.specs.Words.{spelling, first_spelled, name_of, digits, value_after, held, number_of, word_of, words_of};
+ghost use Rattle.book.specs.Words.{spelling, first_spelled, name_of, digits, value_after, held, numeral, number_of, word_of, words_of};
 
 use crate::scan::{before_comment, is_blank};
 use std::alloc::{AllocError, Global};
@@ -27,12 +27,19 @@ pub enum Ask {
     Close,
 }
 
+/// The name of a theory.
+#[derive(Clone, Copy, PartialEq, Eq, Debug)]
+pub enum Sort {
+    Equality,
+    Distance,
+}
+
 /// A word that a book knows.
 #[derive(Clone, Copy, PartialEq, Eq, Debug)]
 pub enum Name {
     Kind(Kind),
     Ask(Ask),
-    Equality,
+    Sort(Sort),
 }
 
 impl Name {
@@ -51,7 +58,8 @@ impl Name {
             Name::Ask(Ask::Write) => "write",
             Name::Ask(Ask::Trial) => "trial",
             Name::Ask(Ask::Close) => "close",
-            Name::Equality => "equality",
+            Name::Sort(Sort::Equality) => "equality",
+            Name::Sort(Sort::Distance) => "distance",
         }
     }
 }
@@ -63,7 +71,7 @@ impl fmt::Display for Name {
     }
 }
 
-const NAMES: [Name; 11] = [
+const NAMES: [Name; 12] = [
     Name::Kind(Kind::Theory),
     Name::Kind(Kind::Term),
     Name::Kind(Kind::Claim),
@@ -74,15 +82,16 @@ const NAMES: [Name; 11] = [
     Name::Ask(Ask::Write),
     Name::Ask(Ask::Trial),
     Name::Ask(Ask::Close),
-    Name::Equality,
+    Name::Sort(Sort::Equality),
+    Name::Sort(Sort::Distance),
 ];
 
-/// What a word is; a number that no field can hold is `Huge`.
+/// What a word is. A number has the value of its digits, unless no field can hold it; a negative one has a `-` before them.
 #[derive(Clone, Copy, PartialEq, Eq, Debug)]
 pub enum Word {
     Known(Name),
-    Number(usize),
-    Huge,
+    Number(Option<usize>),
+    Negative(Option<usize>),
     Other,
 }
 
@@ -123,13 +132,21 @@ fn value(word: &[u8]) -> Option<usize>
     })
 }
 
+/// Whether there are digits, and nothing else.
+fn numeral(word: &[u8]) -> bool
+    ensures { result ≡ numeral word.now }
+{
+    !word.is_empty() && all_digits(word)
+}
+
 fn number(word: &[u8]) -> Word
     ensures { result ≡ number_of word.now }
 {
-    if !all_digits(word) {
-        return Word::Other;
+    match word {
+        [b'-', digits @ ..] if numeral(digits) => Word::Negative(value(digits)),
+        _ if numeral(word) => Word::Number(value(word)),
+        _ => Word::Other,
     }
-    value(word).map_or(Word::Huge, Word::Number)
 }
 
 fn word_of(word: &[u8]) -> Word

@@ -8,7 +8,7 @@ use std::test::Fail;
 use theory::{Found, Literal, Refusal, Term};
 
 /// The claim that `term` minus `base` is at most `most`.
-fn apart(term: u16, base: u16, most: i32) -> Bound {
+pub fn apart(term: u16, base: u16, most: i32) -> Bound {
     Bound { term, base, most }
 }
 

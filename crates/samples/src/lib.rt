@@ -6,4 +6,6 @@ mod calls;
 #[cfg(test)]
 mod distant;
 #[cfg(test)]
-mod tests;
+mod equal;
+#[cfg(test)]
+mod texts;

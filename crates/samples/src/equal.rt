@@ -1,7 +1,5 @@
-//! Tests of the theories through their interface.
+//! Tests of the theory of equality through the interface.
 use crate::calls::*;
-use book::word::{Ask, Kind, Name};
-use book::{Fault, Unread, Wrong};
 use congruence::Claim;
 use equality::make;
 use std::alloc::{AllocError, Global};
@@ -177,54 +175,4 @@ fn an_impossible_list_is_not_written(rt: HostRuntime) {
         Err(Stopped::Refused(Refusal::ListImpossible))
     );
     assert_eq!(rt; place, [5]);
-}
-
-fn fault(line: usize, wrong: Wrong) -> Option<Unread> {
-    Some(Unread::Fault(Fault { line, wrong }))
-}
-
-/// Why a text is no book.
-fn unread(heap: Global, text: &str) -> Option<Unread> {
-    book::read(heap, text.as_bytes()).err()
-}
-
-#[test]
-fn faults(rt: HostRuntime) {
-    let heap = rt.alloc();
-    assert_eq!(rt; unread(heap, ""), fault(1, Wrong::NoTheory));
-    assert_eq!(rt; unread(heap, "term 1\n"), fault(1, Wrong::NoTheory));
-    assert_eq!(rt;
-        unread(heap, "\n theory\tequality # first\r\nterm 7 0 0 0\n"),
-        None
-    );
-    assert_eq!(rt;
-        unread(heap, "theory equality\nterm 65536\n"),
-        fault(2, Wrong::TooLarge { most: 65535 })
-    );
-    assert_eq!(rt;
-        unread(heap, "theory equality\nclaim 0\n"),
-        fault(
-            2,
-            Wrong::Missing {
-                after: Name::Kind(Kind::Claim)
-            }
-        )
-    );
-    assert_eq!(rt;
-        unread(heap, "theory equality\n\nclaims 0 0\n"),
-        fault(3, Wrong::NoSuchLine)
-    );
-    assert_eq!(rt;
-        unread(heap, "theory equality\nclaim 0 0\nterm 1\n"),
-        fault(3, Wrong::LateTerm)
-    );
-    assert_eq!(rt;
-        unread(heap, "theory equality\ncall close 1"),
-        fault(
-            2,
-            Wrong::TooMany {
-                after: Name::Ask(Ask::Close)
-            }
-        )
-    );
 }

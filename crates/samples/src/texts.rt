@@ -1,0 +1,142 @@
+//! Tests of texts with faults, and of what a book of distances gives.
+use crate::distant::apart;
+use book::word::{Ask, Kind, Name};
+use book::{Claims, Fault, Unread, Wrong};
+use std::alloc::Global;
+use std::test::Fail;
+
+fn fault(line: usize, wrong: Wrong) -> Option<Unread> {
+    Some(Unread::Fault(Fault { line, wrong }))
+}
+
+/// Why a text is no book.
+fn unread(heap: Global, text: &str) -> Option<Unread> {
+    book::read(heap, text.as_bytes()).err()
+}
+
+const CLAIM: Name = Name::Kind(Kind::Claim);
+
+#[test]
+fn faults(rt: HostRuntime) {
+    let heap = rt.alloc();
+    assert_eq!(rt; unread(heap, ""), fault(1, Wrong::NoTheory));
+    assert_eq!(rt; unread(heap, "term 1\n"), fault(1, Wrong::NoTheory));
+    assert_eq!(rt;
+        unread(heap, "\n theory\tequality # first\r\nterm 7 0 0 0\n"),
+        None
+    );
+    assert_eq!(rt;
+        unread(heap, "theory equality\nterm 65536\n"),
+        fault(2, Wrong::TooLarge { most: 65535 })
+    );
+    assert_eq!(rt;
+        unread(heap, "theory equality\nclaim 0\n"),
+        fault(2, Wrong::Missing { after: CLAIM })
+    );
+    assert_eq!(rt;
+        unread(heap, "theory equality\n\nclaims 0 0\n"),
+        fault(3, Wrong::NoSuchLine)
+    );
+    assert_eq!(rt;
+        unread(heap, "theory equality\nclaim 0 0\nterm 1\n"),
+        fault(3, Wrong::LateTerm)
+    );
+    assert_eq!(rt;
+        unread(heap, "theory equality\nclaim 0 0 0\n"),
+        fault(2, Wrong::TooMany { after: CLAIM })
+    );
+    assert_eq!(rt;
+        unread(heap, "theory equality\nterm -1\n"),
+        fault(2, Wrong::NoNumber)
+    );
+    assert_eq!(rt;
+        unread(heap, "theory equality\ncall close 1"),
+        fault(
+            2,
+            Wrong::TooMany {
+                after: Name::Ask(Ask::Close)
+            }
+        )
+    );
+}
+
+#[test]
+fn distance_faults(rt: HostRuntime) {
+    let heap = rt.alloc();
+    assert_eq!(rt;
+        unread(heap, "claim 0 1\ntheory distance\n"),
+        fault(1, Wrong::NoTheory)
+    );
+    assert_eq!(rt;
+        unread(heap, "theory distances\n"),
+        fault(1, Wrong::NoSuchTheory)
+    );
+    assert_eq!(rt;
+        unread(heap, "theory distance\ntheory equality\n"),
+        fault(2, Wrong::SecondTheory)
+    );
+    assert_eq!(rt;
+        unread(heap, "theory distance\nclaim 0 1\n"),
+        fault(2, Wrong::Missing { after: CLAIM })
+    );
+    assert_eq!(rt;
+        unread(heap, "theory distance\nclaim 0 1 2 3\n"),
+        fault(2, Wrong::TooMany { after: CLAIM })
+    );
+    assert_eq!(rt;
+        unread(heap, "theory distance\nclaim 0 -1 0\n"),
+        fault(2, Wrong::NoNumber)
+    );
+    assert_eq!(rt;
+        unread(heap, "theory distance\ncall query\nclaim 0 0 0\n"),
+        fault(3, Wrong::LateClaim)
+    );
+}
+
+#[test]
+fn constants_that_are_none(rt: HostRuntime) {
+    for text in [
+        "theory distance\nclaim 0 1 2147483648\n",
+        "theory distance\nclaim 0 1 -2147483649\n",
+        "theory distance\nclaim 0 1 18446744073709551616\n",
+        "theory distance\nclaim 0 1 -18446744073709551616\n",
+    ] {
+        assert_eq!(rt; unread(rt.alloc(), text), fault(2, Wrong::OutOfRange));
+    }
+    for text in [
+        "theory distance\nclaim 0 1 -\n",
+        "theory distance\nclaim 0 1 --5\n",
+        "theory distance\nclaim 0 1 +5\n",
+        "theory distance\nclaim 0 1 0x5\n",
+    ] {
+        assert_eq!(rt; unread(rt.alloc(), text), fault(2, Wrong::NoNumber));
+    }
+}
+
+/// A book of distances, whose constants are as far as a record holds them.
+const FAR: &str = "theory distance
+term 7
+claim 2 1 -0080
+claim 0 9 -2147483648
+claim 9 0 2147483647
+claim 1 1 -0
+";
+
+#[test]
+fn bounds_as_written(rt: HostRuntime) -> Result<(), Fail> {
+    let book = book::read(rt.alloc(), FAR.as_bytes()).map_err(|_| Fail::new("no book"))?;
+    let Claims::Distance(bounds) = &book.claims else {
+        return Err(Fail::new("no book of distances"));
+    };
+    assert_eq!(rt;
+        bounds.as_slice(),
+        [
+            apart(2, 1, -80),
+            apart(0, 9, i32::MIN),
+            apart(9, 0, i32::MAX),
+            apart(1, 1, 0),
+        ]
+        .as_slice()
+    );
+    Ok(())
+}
