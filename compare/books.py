@@ -3,7 +3,7 @@
 
     python3 compare/books.py [SEED [BOOKS [THEORY ..]]]
 
-The theories are those that the program reads books of: equality, unless others are named. Each book asserts, takes back, tries, queries and writes. What the program answers is compared with plain
+The theories are equality and distance, unless one is named. Each book asserts, takes back, tries, queries and writes. What the program answers is compared with plain
 reference solvers: Bellman and Ford's for distances, closure by repeated passes for equality. The core is free, so it is
 held to what is promised of it. The first difference ends the run with status 1.
 """
@@ -21,9 +21,9 @@ class Distance:
     def __init__(self, rnd):
         self.terms = rnd.choice([1, 2, 3, 5, 9, 20, 256])
         used = min(self.terms, rnd.choice([2, 4, 8, 40]))
-        reach = rnd.choice([0, 1, 3, 30, 666666])
+        reach = rnd.choice([0, 1, 3, 30, 1000000])
         self.claims = [
-            (rnd.randrange(used), rnd.randrange(used), rnd.randint(-reach, reach + reach // 2))
+            (rnd.randrange(used), rnd.randrange(used), rnd.randint(-reach, min(reach + reach // 2, 1000000)))
             for _ in range(rnd.choice([0, 1, 3, 8, 20, 60, 128]))
         ]
         self.lines = [f"term {rnd.randrange(65536)}" for _ in range(self.terms)]
@@ -46,7 +46,7 @@ class Distance:
         return None
 
     def check_core(self, literals):
-        """One simple negative cycle."""
+        """One simple negative cycle: no fit, and one without any of its literals."""
         bounds = [self.bound(l) for l in literals]
         follows = {a: b for a, b, _ in bounds}
         assert len(follows) == len(bounds), "a term twice"
@@ -56,6 +56,9 @@ class Distance:
             assert at != start, "more than one cycle"
             at = follows[at]
         assert at == start, "no cycle"
+        assert self.fit(literals) is None, "a fit of the core"
+        for left_out in literals:
+            assert self.fit([l for l in literals if l != left_out]) is not None, "a literal too many"
 
 
 class Equality:
@@ -146,14 +149,17 @@ def check(book, call, literals, answer, cores):
         word, *core = answer.split()
         core = [int(p) for p in core]
         assert word == "impossible" and core == sorted(set(core)) and core[-1] < len(literals), "no core"
-        assert cores.setdefault(tuple(literals), core) == core, "another core of the same list"
-        book.check_core([literals[p] for p in core])
+        if tuple(literals) in cores:
+            assert cores[tuple(literals)] == core, "another core of the same list"
+        else:
+            cores[tuple(literals)] = core
+            book.check_core([literals[p] for p in core])
 
 
 def main():
     seed = int(sys.argv[1]) if len(sys.argv) > 1 else 1
     books = int(sys.argv[2]) if len(sys.argv) > 2 else 200
-    theories = [theory for theory in (Distance, Equality) if theory.name in (sys.argv[3:] or ["equality"])]
+    theories = [theory for theory in (Distance, Equality) if theory.name in (sys.argv[3:] or ["equality", "distance"])]
     rnd, answers = random.Random(seed), 0
     for number in range(books):
         book = rnd.choice(theories)(rnd)
