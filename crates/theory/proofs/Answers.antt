@@ -4,7 +4,7 @@ use Rattle.std.specs.List.{All}
 use Rattle.theory.specs.Literals.{Proper}
 use Rattle.theory.specs.Meaning.{Answer, possible, impossible, Meaning, Rising, Lawful, Together, Exact}
 
-rising_below : (limit : ℕ) (ps : List ℕ) → Rising limit ps → All (λ p. p < limit) ps
+pub rising_below : (limit : ℕ) (ps : List ℕ) → Rising limit ps → All (λ p. p < limit) ps
 rising_below limit [] r k d h = absurd (omega arith)
 rising_below limit (p ∷ []) r zero d h = r
 rising_below limit (p ∷ []) r (suc k) d h = absurd (omega arith)

@@ -40,7 +40,7 @@ pub names_end : (xs : List ℕ) (i l : ℕ) → length xs ≤ i → names (drop 
 names_end xs i l h = ap (λ ys. names ys l) (drop_all i xs h)
 
 -- two literals of one claim are named alike
-names_same : (xs : List ℕ) (x y : ℕ) → claim x ≡ claim y → names xs x ≡ false → names xs y ≡ false
+pub names_same : (xs : List ℕ) (x y : ℕ) → claim x ≡ claim y → names xs x ≡ false → names xs y ≡ false
 names_same [] x y e h = refl
 names_same (z ∷ zs) x y e h =
     let p = names_parts z zs x h in names_later z zs y (λ q. p.0 (q ∙ sym e)) ∙ names_same zs x y e p.1

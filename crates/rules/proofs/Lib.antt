@@ -1,0 +1,11 @@
+pub mod Lists
+pub mod Trails
+pub mod Views
+pub mod Clauses
+pub mod Accepted
+pub mod Invariant
+pub mod Reached
+pub mod Weight
+pub mod Progress
+pub mod Histories
+pub mod SampleBooks

@@ -1,0 +1,5 @@
+pub mod Clauses
+pub mod Refusals
+pub mod Rules
+pub mod Histories
+pub mod Samples
