@@ -1,0 +1,4 @@
+pub mod Sets
+pub mod Stored
+pub mod Rows
+pub mod Learning
