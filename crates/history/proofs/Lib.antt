@@ -1,0 +1,5 @@
+pub mod Asking
+pub mod Blames
+pub mod Links
+pub mod Steps
+pub mod Playing

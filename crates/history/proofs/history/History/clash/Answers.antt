@@ -1,0 +1,33 @@
+use Rattle.std.proofs.Common.{◌∙◌, sym, ap}
+use Rattle.rules.specs.Rules.{unless_over, leaves}
+use Rattle.table.specs.Tables.{state_of}
+use Rattle.history.proofs.Asking.{none_found, some_found}
+use Rattle.history.proofs.Links.{moved, finds, clash_same}
+use Rattle.history.proofs.Steps.{clashes}
+use Rattle.history.proofs.history.History.clash.Goals as goal
+
+pub invariant_of-self-in_default : goal.invariant_of-self-in_default
+invariant_of-self-in_default g c =
+    let M = g.T.Theory.means (g.T.Theory.shape_of c.args.self.now.theory) in
+    let xs = g.T.Theory.asserted c.args.self.now.theory in
+    record {
+      linked = moved g.T.Theory.means c.ask.ensures.shape c.ask.ensures.list (finds c.args.self.now.linked _ (λ e. none_found M xs c.ask.new.place c.ask.result c.ask.ensures.asked c.in_default.is));
+    }
+
+pub invariant_of-self-2 : goal.invariant_of-self-2
+invariant_of-self-2 g c =
+    let M = g.T.Theory.means (g.T.Theory.shape_of c.args.self.now.theory) in
+    let xs = g.T.Theory.asserted c.args.self.now.theory in
+    record {
+      linked = moved g.T.Theory.means c.ask.ensures.shape c.ask.ensures.list
+          (clashes M c.args.self.now.linked c.clash.ensures.claims (g.met.T.Theory.lawful c.args.self.now.theory) _
+          (some_found M xs _ c.ask.result c.in-Some.len c.ask.ensures.asked c.in-Some.is) c.clash.ensures.blames c.clash.ensures.state);
+    }
+
+pub returns-clause-state : goal.returns-clause-state
+returns-clause-state g c =
+    let M = g.T.Theory.means (g.T.Theory.shape_of c.args.self.now.theory) in
+    let xs = g.T.Theory.asserted c.args.self.now.theory in
+    let s = state_of c.args.self.now.table in
+    c.clash.ensures.state
+    ∙ ap (λ o. leaves s (unless_over s o)) (clash_same M (g.met.T.Theory.lawful c.args.self.now.theory) s _ c.args.self.now.linked.reached (ap M.answer (sym c.args.self.now.linked.same) ∙ some_found M xs c.ask.new.place c.ask.result c.in-Some.len c.ask.ensures.asked c.in-Some.is))

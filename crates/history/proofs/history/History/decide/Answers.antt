@@ -1,0 +1,22 @@
+use Rattle.std.proofs.Common.{◌∙◌, refl, sym}
+use Rattle.rules.specs.declared.entry.Reason.TheVariants.{Decided}
+use Rattle.rules.specs.declared.step.Step.TheVariants.{Decide}
+use Rattle.rules.specs.Rules.{decide}
+use Rattle.table.specs.Tables.{state_of}
+use Rattle.history.proofs.Links.{moved, declines, refused_left, puts, decide_pushes}
+use Rattle.history.proofs.history.History.decide.Goals as goal
+
+pub invariant_of-self : goal.invariant_of-self
+invariant_of-self g c = record {
+  linked = declines _ c.args.self.now.linked c.decide.ensures.claims c.decide.ensures.blames
+      (c.decide.ensures.state ∙ refused_left _ _ (sym c.in_err-count.was ∙ c.decide.ensures.says));
+}
+
+pub invariant_of-self-2 : goal.invariant_of-self-2
+invariant_of-self-2 g c =
+    let s = state_of c.args.self.now.table in
+    record {
+      linked = moved g.T.Theory.means c.assert.ensures.shape c.assert.ensures.list
+          (puts _ c.args.self.now.linked c.decide.ensures.claims (Decide c.args.l) c.args.l Decided (λ n. decide n s c.args.l) (λ n. decide_pushes n s c.args.l) refl (λ e. cc)
+          c.decide.ensures.blames (sym c.in_ok-count.was ∙ c.decide.ensures.says) c.decide.ensures.state);
+    }

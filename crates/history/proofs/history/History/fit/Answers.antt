@@ -1,0 +1,32 @@
+use Rattle.std.proofs.Common.{◌≤◌, ◌∙◌, length, Ok, sym, ap, subst}
+use Rattle.rules.specs.Rules.{unless_over, leaves}
+use Rattle.table.specs.Tables.{state_of}
+use Rattle.history.specs.Fits.{written}
+use Rattle.history.proofs.Links.{moved, complete, complete_refuses}
+use Rattle.history.proofs.Steps.{ends, written_possible}
+use Rattle.history.proofs.history.History.fit.Goals as goal
+
+pub returns-in_err-check_complete-clause-state : goal.returns-in_err-check_complete-clause-state
+returns-in_err-check_complete-clause-state g c =
+    let M = g.T.Theory.means (g.T.Theory.shape_of c.args.self.now.theory) in
+    let s = state_of c.args.self.now.table in
+    sym (ap (leaves s) (complete_refuses M.claims s _ (sym c.in_err-check_complete.was ∙ c.check_complete.ensures
+    ∙ ap (λ n. unless_over {A = Unit {0}} s (complete n s (Ok tt))) (sym c.args.self.now.linked.claims))))
+
+pub returns-in_err-check_complete-clause-place : goal.returns-in_err-check_complete-clause-place
+returns-in_err-check_complete-clause-place g c =
+    let M = g.T.Theory.means (g.T.Theory.shape_of c.args.self.now.theory) in
+    let s = state_of c.args.self.now.table in
+    sym (ap (λ o. written M s o c.args.place.now) (complete_refuses M.claims s _ (sym c.in_err-check_complete.was ∙ c.check_complete.ensures
+    ∙ ap (λ n. unless_over {A = Unit {0}} s (complete n s (Ok tt))) (sym c.args.self.now.linked.claims))))
+
+pub invariant_of-self : goal.invariant_of-self
+invariant_of-self g c =
+    let M = g.T.Theory.means (g.T.Theory.shape_of c.args.self.now.theory) in
+    let xs = g.T.Theory.asserted c.args.self.now.theory in
+    record {
+      linked = moved g.T.Theory.means c.write.ensures.shape c.write.ensures.list
+          (ends M c.args.self.now.linked c.fit.ensures.claims (length c.args.place.now) (sym c.in_ok-check_complete.was ∙ c.check_complete.ensures)
+          (written_possible M xs c.args.place.now (sym c.in-Ok.is ∙ c.write.ensures.says)) (subst (λ m. m ≤ length c.args.place.now) c.terms.ensures c.if-place-terms.false)
+          c.fit.ensures.blames c.fit.ensures.state);
+    }

@@ -1,0 +1,4 @@
+pub mod Links
+pub mod Fits
+pub mod Asking
+pub mod Replays
