@@ -1,5 +1,5 @@
 -- What written names and numbers are as words. Assumes nothing.
-use Rattle.std.proofs.Common.{◌≡◌, ℕ, ◌^◌, ◌<◌, ◌≤◌, true, false, cond, eqb, leb, ltb, List, [], ◌∷◌, map, length, Some, None, decimal, refl, ap, ◌∙◌, arith, rules}
+use Rattle.std.proofs.Common.{◌≡◌, ℕ, ◌^◌, ◌<◌, ◌≤◌, Bool, true, false, cond, ◌&&◌, eqb, leb, ltb, List, [], ◌∷◌, map, length, Some, None, decimal, refl, ap, ◌∙◌, arith, rules}
 use Rattle.std.specs.Char.{is_ascii_digit}
 use Rattle.std.specs.List.{AllByRecursion, list_all}
 use Rattle.std.specs.Str.{bytes_eq}
@@ -7,9 +7,10 @@ use Rattle.std.proofs.lemmas.Fmt.{decimal_nonempty, digits_decimal, digits_value
 use Rattle.std.proofs.lemmas.Str.Parse.{IsNumeralModel, numerals_by_fold}
 use Rattle.std.proofs.lemmas.Bool.{cond-false, not_from_false, ne_eqb, and_from, and_parts, and_left, leb-true, ltb-true, lt-ltb}
 use Rattle.book.specs.declared.word.Name.{Name}
-use Rattle.book.specs.declared.word.Name.TheVariants.{Kind as kind, Ask as ask, Sort as sort}
-use Rattle.book.specs.declared.word.Kind.TheVariants.{Theory, Term, Claim, Call}
+use Rattle.book.specs.declared.word.Name.TheVariants.{Kind as kind, Ask as ask, Rule as rule, Sort as sort}
+use Rattle.book.specs.declared.word.Kind.TheVariants.{Theory, Term, Claim, Clause, Row, Allowance, Call, Step}
 use Rattle.book.specs.declared.word.Ask.TheVariants.{Assert, TakeBack, Query, Write, Trial, Close}
+use Rattle.book.specs.declared.word.Rule.TheVariants.{Decide, Propagate, Imply, Conflict, Clash, Resolve, Jump, Forget, Fit, NoFit}
 use Rattle.book.specs.declared.word.Sort.TheVariants.{Equality, Distance}
 use Rattle.book.specs.declared.word.Word.{Word}
 use Rattle.book.specs.declared.word.Word.TheVariants.{Known, Number, Negative, Other}
@@ -23,47 +24,79 @@ unfolding first_spelled
 name_word (kind Theory) = refl
 name_word (kind Term) = refl
 name_word (kind Claim) = refl
+name_word (kind Clause) = refl
+name_word (kind Row) = refl
+name_word (kind Allowance) = refl
 name_word (kind Call) = refl
+name_word (kind Step) = refl
 name_word (ask Assert) = refl
 name_word (ask TakeBack) = refl
 name_word (ask Query) = refl
 name_word (ask Write) = refl
 name_word (ask Trial) = refl
 name_word (ask Close) = refl
+name_word (rule Decide) = refl
+name_word (rule Propagate) = refl
+name_word (rule Imply) = refl
+name_word (rule Conflict) = refl
+name_word (rule Clash) = refl
+name_word (rule Resolve) = refl
+name_word (rule Jump) = refl
+name_word (rule Forget) = refl
+name_word (rule Fit) = refl
+name_word (rule NoFit) = refl
 name_word (sort Equality) = refl
 name_word (sort Distance) = refl
 
-above : (w : List ℕ) → 0 < length w → list_all (ltb 35) w ≡ true → Plain w
-above = plain_by (ltb 35) (λ b h. ltb-true 35 b h)
+-- a word of letters
+abbrev lettered : List ℕ → Bool
+lettered w = filled w && list_all (ltb 57) w
+
+name_lettered : (n : Name) → lettered (spelling n) ≡ true
+name_lettered (kind Theory) = refl
+name_lettered (kind Term) = refl
+name_lettered (kind Claim) = refl
+name_lettered (kind Clause) = refl
+name_lettered (kind Row) = refl
+name_lettered (kind Allowance) = refl
+name_lettered (kind Call) = refl
+name_lettered (kind Step) = refl
+name_lettered (ask Assert) = refl
+name_lettered (ask TakeBack) = refl
+name_lettered (ask Query) = refl
+name_lettered (ask Write) = refl
+name_lettered (ask Trial) = refl
+name_lettered (ask Close) = refl
+name_lettered (rule Decide) = refl
+name_lettered (rule Propagate) = refl
+name_lettered (rule Imply) = refl
+name_lettered (rule Conflict) = refl
+name_lettered (rule Clash) = refl
+name_lettered (rule Resolve) = refl
+name_lettered (rule Jump) = refl
+name_lettered (rule Forget) = refl
+name_lettered (rule Fit) = refl
+name_lettered (rule NoFit) = refl
+name_lettered (sort Equality) = refl
+name_lettered (sort Distance) = refl
+
+lettered_plain : (w : List ℕ) → lettered w ≡ true → Plain w
+lettered_plain [] h = let z : false ≡ true = h in cc
+lettered_plain (b ∷ bs) h = plain_by (ltb 57) (λ b h. omega (arith, ltb-true 57 b h)) (b ∷ bs) (omega arith) (and_parts (filled (b ∷ bs)) (list_all (ltb 57) (b ∷ bs)) h).1
 
 pub name_plain : (n : Name) → Plain (spelling n)
-name_plain (kind Theory) = above (spelling (kind Theory)) (omega arith) refl
-name_plain (kind Term) = above (spelling (kind Term)) (omega arith) refl
-name_plain (kind Claim) = above (spelling (kind Claim)) (omega arith) refl
-name_plain (kind Call) = above (spelling (kind Call)) (omega arith) refl
-name_plain (ask Assert) = above (spelling (ask Assert)) (omega arith) refl
-name_plain (ask TakeBack) = above (spelling (ask TakeBack)) (omega arith) refl
-name_plain (ask Query) = above (spelling (ask Query)) (omega arith) refl
-name_plain (ask Write) = above (spelling (ask Write)) (omega arith) refl
-name_plain (ask Trial) = above (spelling (ask Trial)) (omega arith) refl
-name_plain (ask Close) = above (spelling (ask Close)) (omega arith) refl
-name_plain (sort Equality) = above (spelling (sort Equality)) (omega arith) refl
-name_plain (sort Distance) = above (spelling (sort Distance)) (omega arith) refl
+name_plain n = lettered_plain (spelling n) (name_lettered n)
+
+lettered_differs : (w : List ℕ) (b : ℕ) (bs : List ℕ) → lettered w ≡ true → b ≤ 57 → bytes_eq (b ∷ bs) w ≡ false
+lettered_differs [] b bs h low = refl
+lettered_differs (d ∷ ds) b bs h low =
+    let letters = (and_parts (filled (d ∷ ds)) (list_all (ltb 57) (d ∷ ds)) h).1 in
+    let high : 57 < d = ltb-true 57 d (and_parts (ltb 57 d) (list_all (ltb 57) ds) letters).0 in
+    and_left (eqb b d) _ (ne_eqb b d (λ e. omega arith))
 
 -- neither a digit nor a `-` begins a name
 differs : (n : Name) (b : ℕ) (bs : List ℕ) → b ≤ 57 → bytes_eq (b ∷ bs) (spelling n) ≡ false
-differs (kind Theory) b bs h = and_left (eqb b 116) _ (ne_eqb b 116 (λ e. omega arith))
-differs (kind Term) b bs h = and_left (eqb b 116) _ (ne_eqb b 116 (λ e. omega arith))
-differs (kind Claim) b bs h = and_left (eqb b 99) _ (ne_eqb b 99 (λ e. omega arith))
-differs (kind Call) b bs h = and_left (eqb b 99) _ (ne_eqb b 99 (λ e. omega arith))
-differs (ask Assert) b bs h = and_left (eqb b 97) _ (ne_eqb b 97 (λ e. omega arith))
-differs (ask TakeBack) b bs h = and_left (eqb b 116) _ (ne_eqb b 116 (λ e. omega arith))
-differs (ask Query) b bs h = and_left (eqb b 113) _ (ne_eqb b 113 (λ e. omega arith))
-differs (ask Write) b bs h = and_left (eqb b 119) _ (ne_eqb b 119 (λ e. omega arith))
-differs (ask Trial) b bs h = and_left (eqb b 116) _ (ne_eqb b 116 (λ e. omega arith))
-differs (ask Close) b bs h = and_left (eqb b 99) _ (ne_eqb b 99 (λ e. omega arith))
-differs (sort Equality) b bs h = and_left (eqb b 101) _ (ne_eqb b 101 (λ e. omega arith))
-differs (sort Distance) b bs h = and_left (eqb b 100) _ (ne_eqb b 100 (λ e. omega arith))
+differs n b bs h = lettered_differs (spelling n) b bs (name_lettered n) h
 
 none_spelled : (ns : List Name) (b : ℕ) (bs : List ℕ) → b ≤ 57 → first_spelled ns (b ∷ bs) ≡ None
 unfolding first_spelled

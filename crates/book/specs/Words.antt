@@ -4,9 +4,10 @@ use Rattle.std.specs.Char.{is_ascii_digit}
 use Rattle.std.specs.List.{fold, find, list_all, slice_split, before_first}
 use Rattle.std.specs.Str.{bytes_eq}
 use Rattle.book.specs.declared.word.Name.{Name}
-use Rattle.book.specs.declared.word.Name.TheVariants.{Kind as kind, Ask as ask, Sort as sort}
-use Rattle.book.specs.declared.word.Kind.TheVariants.{Theory, Term, Claim, Call}
+use Rattle.book.specs.declared.word.Name.TheVariants.{Kind as kind, Ask as ask, Rule as rule, Sort as sort}
+use Rattle.book.specs.declared.word.Kind.TheVariants.{Theory, Term, Claim, Clause, Row, Allowance, Call, Step}
 use Rattle.book.specs.declared.word.Ask.TheVariants.{Assert, TakeBack, Query, Write, Trial, Close}
+use Rattle.book.specs.declared.word.Rule.TheVariants.{Decide, Propagate, Imply, Conflict, Clash, Resolve, Jump, Forget, Fit, NoFit}
 use Rattle.book.specs.declared.word.Sort.TheVariants.{Equality, Distance}
 use Rattle.book.specs.declared.word.Word.{Word}
 use Rattle.book.specs.declared.word.Word.TheVariants.{Known, Number, Negative, Other}
@@ -17,20 +18,37 @@ abbrev pub spelling : Name → List ℕ
 spelling (kind Theory) = codes "theory"
 spelling (kind Term) = codes "term"
 spelling (kind Claim) = codes "claim"
+spelling (kind Clause) = codes "clause"
+spelling (kind Row) = codes "row"
+spelling (kind Allowance) = codes "allowance"
 spelling (kind Call) = codes "call"
+spelling (kind Step) = codes "step"
 spelling (ask Assert) = codes "assert"
 spelling (ask TakeBack) = codes "takeback"
 spelling (ask Query) = codes "query"
 spelling (ask Write) = codes "write"
 spelling (ask Trial) = codes "trial"
 spelling (ask Close) = codes "close"
+spelling (rule Decide) = codes "decide"
+spelling (rule Propagate) = codes "propagate"
+spelling (rule Imply) = codes "imply"
+spelling (rule Conflict) = codes "conflict"
+spelling (rule Clash) = codes "clash"
+spelling (rule Resolve) = codes "resolve"
+spelling (rule Jump) = codes "jump"
+spelling (rule Forget) = codes "forget"
+spelling (rule Fit) = codes "fit"
+spelling (rule NoFit) = codes "nofit"
 spelling (sort Equality) = codes "equality"
 spelling (sort Distance) = codes "distance"
 
 abbrev pub names : List Name
 names =
-    kind Theory ∷ kind Term ∷ kind Claim ∷ kind Call ∷ ask Assert ∷ ask TakeBack ∷ ask Query ∷ ask Write ∷ ask Trial
-    ∷ ask Close ∷ sort Equality ∷ sort Distance ∷ []
+    kind Theory ∷ kind Term ∷ kind Claim ∷ kind Clause ∷ kind Row ∷ kind Allowance ∷ kind Call ∷ kind Step
+    ∷ ask Assert ∷ ask TakeBack ∷ ask Query ∷ ask Write ∷ ask Trial ∷ ask Close
+    ∷ rule Decide ∷ rule Propagate ∷ rule Imply ∷ rule Conflict ∷ rule Clash ∷ rule Resolve ∷ rule Jump ∷ rule Forget
+    ∷ rule Fit ∷ rule NoFit
+    ∷ sort Equality ∷ sort Distance ∷ []
 
 -- the first of some names that a word spells
 unfoldable pub first_spelled : List Name → List ℕ → Option Name

@@ -2,6 +2,7 @@
 ghost use Rattle.std.specs.Prelude.{◌≡◌};
 ghost use Rattle.book.specs.Books.{claims_of, theory_of, no_claims};
 
+use crate::proposed::Proposed;
 use crate::word::Sort;
 use congruence::Claim;
 use difference::Bound;
@@ -71,10 +72,14 @@ impl Claims {
     }
 }
 
-/// The terms, claims and calls of a book, each in their order.
+/// The terms and claims of a book, and then either its calls or what a history has: the clauses as one row of numbers
+/// (for each a count and then its literals), the allowance and the steps; each in their order.
 #[derive(Drop)]
 pub struct Book {
     pub terms: Vec<Term>,
     pub claims: Claims,
     pub calls: Vec<Asked>,
+    pub row: Vec<u16>,
+    pub allowance: u32,
+    pub steps: Vec<Proposed>,
 }

@@ -12,6 +12,7 @@ pub enum Wrong {
     NoSuchLine,
     NoSuchTheory,
     NoSuchCall,
+    NoSuchStep,
     NoNumber,
     TooLarge { most: usize },
     OutOfRange,
@@ -21,6 +22,12 @@ pub enum Wrong {
     SecondTheory,
     LateTerm,
     LateClaim,
+    LateClause,
+    ClausesAndRows,
+    LateAllowance,
+    SecondAllowance,
+    HistoryToAsk,
+    CallsToReplay,
 }
 
 impl fmt::Display for Wrong {
@@ -28,12 +35,16 @@ impl fmt::Display for Wrong {
         match *self {
             Wrong::NoSuchLine => write!(
                 f,
-                "a line begins with `theory`, `term`, `claim` or `call`"
+                "a line begins with `theory`, `term`, `claim`, `clause`, `row`, `allowance`, `call` or `step`"
             ),
             Wrong::NoSuchTheory => write!(f, "a theory is `equality` or `distance`"),
             Wrong::NoSuchCall => write!(
                 f,
                 "a call is `assert`, `takeback`, `query`, `write`, `trial` or `close`"
+            ),
+            Wrong::NoSuchStep => write!(
+                f,
+                "a step is `decide`, `propagate`, `imply`, `conflict`, `clash`, `resolve`, `jump`, `forget`, `fit` or `nofit`"
             ),
             Wrong::NoNumber => write!(f, "a word stands where a number is wanted"),
             Wrong::TooLarge { most } => write!(f, "a number does not fit: at most {most}"),
@@ -47,6 +58,9 @@ impl fmt::Display for Wrong {
             Wrong::Missing {
                 after: Name::Kind(Kind::Call),
             } => write!(f, "the name of a call is missing after `call`"),
+            Wrong::Missing {
+                after: Name::Kind(Kind::Step),
+            } => write!(f, "the name of a step is missing after `step`"),
             Wrong::Missing { after } => write!(f, "a number is missing after `{after}`"),
             Wrong::TooMany { after } => write!(f, "there are words too many after `{after}`"),
             Wrong::NoTheory => write!(
@@ -54,8 +68,28 @@ impl fmt::Display for Wrong {
                 "a book begins with the line `theory equality` or `theory distance`"
             ),
             Wrong::SecondTheory => write!(f, "a second theory line"),
-            Wrong::LateTerm => write!(f, "a term line stands after a claim or a call"),
-            Wrong::LateClaim => write!(f, "a claim line stands after a call"),
+            Wrong::LateTerm => write!(
+                f,
+                "a term line stands after a claim, clause, row, allowance, call or step"
+            ),
+            Wrong::LateClaim => write!(
+                f,
+                "a claim line stands after a clause, row, allowance, call or step"
+            ),
+            Wrong::LateClause => write!(
+                f,
+                "a clause or row line stands after the allowance or a step"
+            ),
+            Wrong::ClausesAndRows => {
+                write!(f, "clause lines and row lines do not stand in one book")
+            }
+            Wrong::LateAllowance => write!(f, "the allowance line stands after a step"),
+            Wrong::SecondAllowance => write!(f, "a second allowance line"),
+            Wrong::HistoryToAsk => write!(
+                f,
+                "a book to ask has no clause, row, allowance or step lines"
+            ),
+            Wrong::CallsToReplay => write!(f, "a book to replay has no call lines"),
         }
     }
 }

@@ -1,23 +1,65 @@
 //! What a line says.
-ghost use Rattle.std.specs.Prelude.{◌≡◌, Ok};
-ghost use Rattle.book.specs.Lines.{and_then, number_to, short_of, long_of, signed_of, shorts_of, first_two, only_of, place_of, theory_line_of, term_of, equal_of, bound_of, claim_of, called_by, call_of, line_by, said_by};
+ghost use Rattle.std.specs.Prelude.{◌≡◌, Ok, vec_items};
+ghost use Rattle.book.specs.declared.line.Unsaid.TheVariants.{Wrong as wrong, NoMemory};
+ghost use Rattle.book.specs.Lines.{saying_of, and_then, number_to, short_of, middle_of, long_of, signed_of, shorts_of, first_two, none_of, only_of, two_of, place_of, theory_line_of, term_of, equal_of, bound_of, called_by, call_of, propagate_of, jump_of, proposed_by, step_of, line_by, said_by, unread_at, Says};
 
 use crate::contents::Call;
-use crate::fault::Wrong;
-use crate::word::{Ask, Kind, Name, Sort, Word};
+use crate::fault::{Fault, Unread, Wrong};
+use crate::proposed::Proposed;
+use crate::word::{Ask, Kind, Name, Rule, Sort, Word};
 use congruence::Claim;
 use difference::Bound;
-use theory::Term;
+use std::alloc::{AllocError, Global};
+use theory::{Literal, Term};
 
 /// What one line says.
-#[derive(Clone, Copy, PartialEq, Eq, Debug)]
+#[derive(Drop)]
 pub enum Said {
     Nothing,
     Theory(Sort),
     Term(Term),
     Claim(Claim),
     Bound(Bound),
+    Clause(Vec<Literal>),
+    Row(Vec<u16>),
+    Allowance(u32),
     Call(Call),
+    Step(Proposed),
+}
+
+/// Why a line says nothing.
+#[derive(Clone, Copy, PartialEq, Eq, Debug)]
+pub enum Unsaid {
+    Wrong(Wrong),
+    NoMemory,
+}
+
+impl Unsaid {
+    /// The same of a book that has the line.
+    pub fn at(self, line: usize) -> Unread
+        ensures { result ≡ unread_at line self }
+    {
+        match self {
+            Unsaid::Wrong(wrong) => Unread::Fault(Fault { line, wrong }),
+            Unsaid::NoMemory => Unread::NoMemory,
+        }
+    }
+}
+
+impl From<Wrong> for Unsaid {
+    ghost from_gives = { λ w r. r ≡ wrong w };
+
+    fn from(wrong: Wrong) -> Unsaid {
+        Unsaid::Wrong(wrong)
+    }
+}
+
+impl From<AllocError> for Unsaid {
+    ghost from_gives = { λ _ r. r ≡ NoMemory };
+
+    fn from(_e: AllocError) -> Unsaid {
+        Unsaid::NoMemory
+    }
 }
 
 /// A number up to `most`.
@@ -40,6 +82,15 @@ fn short(word: Word) -> Result<u16, Wrong>
     Ok(n as u16)
 }
 
+/// A number of 32 bits.
+fn middle(word: Word) -> Result<u32, Wrong>
+    ensures { result ≡ middle_of word }
+{
+    let n = number(word, u32::MAX as usize)?;
+    // As in `short`, the cast loses nothing.
+    Ok(n as u32)
+}
+
 /// A number of 64 bits.
 fn long(word: Word) -> Result<usize, Wrong>
     ensures { result ≡ long_of word }
@@ -60,6 +111,16 @@ fn signed(word: Word) -> Result<i32, Wrong>
     fitting.ok_or(Wrong::OutOfRange)
 }
 
+/// No words after a name.
+fn none(after: Name, words: &[Word]) -> Result<(), Wrong>
+    ensures { result ≡ none_of after words.now }
+{
+    match words {
+        [] => Ok(()),
+        _ => Err(Wrong::TooMany { after }),
+    }
+}
+
 /// The one word after a name.
 fn only(after: Name, words: &[Word]) -> Result<Word, Wrong>
     ensures { result ≡ only_of after words.now }
@@ -71,6 +132,18 @@ fn only(after: Name, words: &[Word]) -> Result<Word, Wrong>
     }
 }
 
+/// The two words after a name.
+fn two(after: Name, words: &[Word]) -> Result<(Word, Word), Wrong>
+    ensures { result ≡ two_of after words.now }
+{
+    match words {
+        [] | [_] => Err(Wrong::Missing { after }),
+        [first, second] => Ok((*first, *second)),
+        _ => Err(Wrong::TooMany { after }),
+    }
+}
+
+/// The length of a place, which may be left out.
 fn place(after: Name, words: &[Word]) -> Result<Option<u16>, Wrong>
     ensures { result ≡ place_of after words.now }
 {
@@ -81,11 +154,11 @@ fn place(after: Name, words: &[Word]) -> Result<Option<u16>, Wrong>
     }
 }
 
-fn theory(words: &[Word]) -> Result<Said, Wrong>
+fn theory(words: &[Word]) -> Result<Sort, Wrong>
     ensures { result ≡ theory_line_of words.now }
 {
     match only(Name::Kind(Kind::Theory), words)? {
-        Word::Known(Name::Sort(theory)) => Ok(Said::Theory(theory)),
+        Word::Known(Name::Sort(theory)) => Ok(theory),
         _ => Err(Wrong::NoSuchTheory),
     }
 }
@@ -116,8 +189,20 @@ fn arguments(words: &[Word]) -> Result<[u16; 2], Wrong>
     }
 }
 
+/// Any numbers of 16 bits.
 #[tactic(auto, unfolding(crate::specs::Lines::shorts_of))]
-fn term(words: &[Word]) -> Result<Said, Wrong>
+fn numbers(heap: Global, words: &[Word]) -> Result<Vec<u16>, Unsaid>
+    ensures { Says result (λ v. vec_items v) (shorts_of words.now) }
+{
+    let mut numbers = Vec::new(heap);
+    for word in words {
+        numbers.push(short(*word)?).map_err(AllocError::from)?;
+    }
+    Ok(numbers)
+}
+
+#[tactic(auto, unfolding(crate::specs::Lines::shorts_of))]
+fn term(words: &[Word]) -> Result<Term, Wrong>
     ensures { result ≡ term_of words.now }
 {
     match words {
@@ -127,60 +212,39 @@ fn term(words: &[Word]) -> Result<Said, Wrong>
         [symbol, rest @ ..] => {
             let symbol = short(*symbol)?;
             let args = arguments(rest)?;
-            Ok(Said::Term(Term {
+            Ok(Term {
                 symbol,
                 arity: u8::try_from(rest.len()).unwrap_or(u8::MAX),
                 args,
-            }))
+            })
         }
     }
 }
 
 /// A claim that two terms are equal.
-fn equal(words: &[Word]) -> Result<Said, Wrong>
+fn equal(words: &[Word]) -> Result<Claim, Wrong>
     ensures { result ≡ equal_of words.now }
 {
-    match words {
-        [left, right] => Ok(Said::Claim(Claim {
-            left: short(*left)?,
-            right: short(*right)?,
-        })),
-        [] | [_] => Err(Wrong::Missing {
-            after: Name::Kind(Kind::Claim),
-        }),
-        _ => Err(Wrong::TooMany {
-            after: Name::Kind(Kind::Claim),
-        }),
-    }
+    let (left, right) = two(Name::Kind(Kind::Claim), words)?;
+    Ok(Claim {
+        left: short(left)?,
+        right: short(right)?,
+    })
 }
 
 /// A claim that bounds the distance of two terms.
-fn bound(words: &[Word]) -> Result<Said, Wrong>
+fn bound(words: &[Word]) -> Result<Bound, Wrong>
     ensures { result ≡ bound_of words.now }
 {
+    let after = Name::Kind(Kind::Claim);
     match words {
-        [term, base, most] => Ok(Said::Bound(Bound {
+        [term, base, most] => Ok(Bound {
             term: short(*term)?,
             base: short(*base)?,
             most: signed(*most)?,
-        })),
-        [] | [_] | [_, _] => Err(Wrong::Missing {
-            after: Name::Kind(Kind::Claim),
         }),
-        _ => Err(Wrong::TooMany {
-            after: Name::Kind(Kind::Claim),
-        }),
-    }
-}
-
-/// A claim of the book's theory.
-fn claim(of: Option<Sort>, words: &[Word]) -> Result<Said, Wrong>
-    ensures { result ≡ claim_of of words.now }
-{
-    match of {
-        Some(Sort::Equality) => equal(words),
-        Some(Sort::Distance) => bound(words),
-        None => Err(Wrong::NoTheory),
+        [] | [_] | [_, _] => Err(Wrong::Missing { after }),
+        _ => Err(Wrong::TooMany { after }),
     }
 }
 
@@ -194,43 +258,92 @@ fn called(ask: Ask, words: &[Word]) -> Result<Call, Wrong>
         Ask::Query => Ok(Call::Query(place(after, words)?)),
         Ask::Write => Ok(Call::Write(place(after, words)?)),
         Ask::Trial => Ok(Call::Trial(short(only(after, words)?)?)),
-        Ask::Close => match words {
-            [] => Ok(Call::Close),
-            _ => Err(Wrong::TooMany { after }),
-        },
+        Ask::Close => none(after, words).map(|()| Call::Close),
     }
 }
 
-fn call(words: &[Word]) -> Result<Said, Wrong>
+fn call(words: &[Word]) -> Result<Call, Wrong>
     ensures { result ≡ call_of words.now }
 {
     match words {
         [] => Err(Wrong::Missing {
             after: Name::Kind(Kind::Call),
         }),
-        [Word::Known(Name::Ask(ask)), rest @ ..] => Ok(Said::Call(called(*ask, rest)?)),
+        [Word::Known(Name::Ask(ask)), rest @ ..] => called(*ask, rest),
         _ => Err(Wrong::NoSuchCall),
     }
 }
 
-fn named(of: Option<Sort>, kind: Kind, words: &[Word]) -> Result<Said, Wrong>
-    ensures { result ≡ line_by of kind words.now }
+fn propagate(words: &[Word]) -> Result<Proposed, Wrong>
+    ensures { result ≡ propagate_of words.now }
+{
+    let (c, l) = two(Name::Rule(Rule::Propagate), words)?;
+    Ok(Proposed::Propagate(short(c)?, short(l)?))
+}
+
+fn jump(words: &[Word]) -> Result<Proposed, Wrong>
+    ensures { result ≡ jump_of words.now }
+{
+    let (k, c) = two(Name::Rule(Rule::Jump), words)?;
+    Ok(Proposed::Jump(middle(k)?, short(c)?))
+}
+
+fn proposed(rule: Rule, words: &[Word]) -> Result<Proposed, Wrong>
+    ensures { result ≡ proposed_by rule words.now }
+{
+    let after = Name::Rule(rule);
+    match rule {
+        Rule::Decide => Ok(Proposed::Decide(short(only(after, words)?)?)),
+        Rule::Propagate => propagate(words),
+        Rule::Imply => Ok(Proposed::Imply(short(only(after, words)?)?)),
+        Rule::Conflict => Ok(Proposed::Conflict(short(only(after, words)?)?)),
+        Rule::Clash => none(after, words).map(|()| Proposed::Clash),
+        Rule::Resolve => none(after, words).map(|()| Proposed::Resolve),
+        Rule::Jump => jump(words),
+        Rule::Forget => Ok(Proposed::Forget(short(only(after, words)?)?)),
+        Rule::Fit => Ok(Proposed::Fit(place(after, words)?)),
+        Rule::NoFit => none(after, words).map(|()| Proposed::NoFit),
+    }
+}
+
+fn step(words: &[Word]) -> Result<Proposed, Wrong>
+    ensures { result ≡ step_of words.now }
+{
+    match words {
+        [] => Err(Wrong::Missing {
+            after: Name::Kind(Kind::Step),
+        }),
+        [Word::Known(Name::Rule(rule)), rest @ ..] => proposed(*rule, rest),
+        _ => Err(Wrong::NoSuchStep),
+    }
+}
+
+fn named(heap: Global, of: Option<Sort>, kind: Kind, words: &[Word]) -> Result<Said, Unsaid>
+    ensures { Says result saying_of (line_by of kind words.now) }
 {
     match kind {
-        Kind::Theory => theory(words),
-        Kind::Term => term(words),
-        Kind::Claim => claim(of, words),
-        Kind::Call => call(words),
+        Kind::Theory => Ok(Said::Theory(theory(words)?)),
+        Kind::Term => Ok(Said::Term(term(words)?)),
+        Kind::Claim => match of {
+            Some(Sort::Equality) => Ok(Said::Claim(equal(words)?)),
+            Some(Sort::Distance) => Ok(Said::Bound(bound(words)?)),
+            None => Err(Unsaid::Wrong(Wrong::NoTheory)),
+        },
+        Kind::Clause => Ok(Said::Clause(numbers(heap, words)?)),
+        Kind::Row => Ok(Said::Row(numbers(heap, words)?)),
+        Kind::Allowance => Ok(Said::Allowance(middle(only(Name::Kind(kind), words)?)?)),
+        Kind::Call => Ok(Said::Call(call(words)?)),
+        Kind::Step => Ok(Said::Step(step(words)?)),
     }
 }
 
 /// What the words of a line say in a book of a theory, or before its theory line.
-pub fn meaning(of: Option<Sort>, words: &[Word]) -> Result<Said, Wrong>
-    ensures { result ≡ said_by of words.now }
+pub fn meaning(heap: Global, of: Option<Sort>, words: &[Word]) -> Result<Said, Unsaid>
+    ensures { Says result saying_of (said_by of words.now) }
 {
     match words {
         [] => Ok(Said::Nothing),
-        [Word::Known(Name::Kind(kind)), rest @ ..] => named(of, *kind, rest),
-        _ => Err(Wrong::NoSuchLine),
+        [Word::Known(Name::Kind(kind)), rest @ ..] => named(heap, of, *kind, rest),
+        _ => Err(Unsaid::Wrong(Wrong::NoSuchLine)),
     }
 }

@@ -1,6 +1,7 @@
 //! Reading a book line by line.
-ghost use Rattle.std.specs.Prelude.{◌≡◌, OnOk};
-ghost use Rattle.book.specs.Books.{contents_of, none, adds, theory_at, stage_after, turn, meant, Tells};
+ghost use Rattle.std.specs.Prelude.{◌≡◌, ◌++◌, OnOk, vec_items};
+ghost use Rattle.book.specs.Lines.{saying_of};
+ghost use Rattle.book.specs.Books.{contents_of, none, counted, adds, theory_at, stage_after, turn, meant, Tells};
 
 use crate::contents::{Asked, Book, Claims};
 use crate::fault::{Fault, Unread, Wrong};
@@ -9,13 +10,25 @@ use crate::scan::Lines;
 use crate::word::{Sort, words};
 use std::alloc::{AllocError, Global};
 
-/// Which lines may come: at the start the theory alone, and then terms, claims and calls in this order.
+/// What a book is read for: its calls, or its history.
+#[derive(Clone, Copy, PartialEq, Eq, Debug)]
+pub enum Purpose {
+    Ask,
+    Replay,
+}
+
+/// Which lines may come: at the start the theory alone, and then terms, claims, clauses or rows, the allowance, and calls or
+/// steps in this order.
 #[derive(Clone, Copy, PartialEq, Eq, Debug)]
 pub enum Stage {
     Start,
     Terms,
     Claims,
+    Clauses,
+    Rows,
+    Allowance,
     Calls,
+    Steps,
 }
 
 /// A book with nothing in it; its theory line says which claims it has.
@@ -26,6 +39,9 @@ fn blank(heap: Global) -> Book
         terms: Vec::new(heap),
         claims: Claims::none(heap, Sort::Equality),
         calls: Vec::new(heap),
+        row: Vec::new(heap),
+        allowance: u32::MAX,
+        steps: Vec::new(heap),
     }
 }
 
@@ -40,24 +56,44 @@ fn theory(stage: Stage, book: &Book) -> Option<Sort>
 }
 
 /// The stage after a line.
-fn next(stage: Stage, said: Said) -> Result<Stage, Wrong>
-    ensures { result ≡ stage_after stage said }
+fn next(purpose: Purpose, stage: Stage, said: &Said) -> Result<Stage, Wrong>
+    ensures { result ≡ stage_after purpose stage (saying_of said.now) }
 {
-    match (said, stage) {
-        (Said::Nothing, _) => Ok(stage),
-        (Said::Theory(_), Stage::Start) => Ok(Stage::Terms),
-        (Said::Theory(_), _) => Err(Wrong::SecondTheory),
-        (_, Stage::Start) => Err(Wrong::NoTheory),
-        (Said::Term(_), Stage::Terms) => Ok(Stage::Terms),
-        (Said::Term(_), _) => Err(Wrong::LateTerm),
-        (Said::Claim(_) | Said::Bound(_), Stage::Calls) => Err(Wrong::LateClaim),
-        (Said::Claim(_) | Said::Bound(_), _) => Ok(Stage::Claims),
-        (Said::Call(_), _) => Ok(Stage::Calls),
+    match (said, stage, purpose) {
+        (Said::Nothing, _, _) => Ok(stage),
+        (Said::Theory(_), Stage::Start, _) => Ok(Stage::Terms),
+        (Said::Theory(_), _, _) => Err(Wrong::SecondTheory),
+        (_, Stage::Start, _) => Err(Wrong::NoTheory),
+        (Said::Term(_), Stage::Terms, _) => Ok(Stage::Terms),
+        (Said::Term(_), _, _) => Err(Wrong::LateTerm),
+        (Said::Claim(_) | Said::Bound(_), Stage::Terms | Stage::Claims, _) => Ok(Stage::Claims),
+        (Said::Claim(_) | Said::Bound(_), _, _) => Err(Wrong::LateClaim),
+        (Said::Call(_), _, Purpose::Ask) => Ok(Stage::Calls),
+        (Said::Call(_), _, Purpose::Replay) => Err(Wrong::CallsToReplay),
+        (_, _, Purpose::Ask) => Err(Wrong::HistoryToAsk),
+        (Said::Clause(_), Stage::Terms | Stage::Claims | Stage::Clauses, _) => Ok(Stage::Clauses),
+        (Said::Row(_), Stage::Terms | Stage::Claims | Stage::Rows, _) => Ok(Stage::Rows),
+        (Said::Clause(_), Stage::Rows, _) | (Said::Row(_), Stage::Clauses, _) => {
+            Err(Wrong::ClausesAndRows)
+        }
+        (Said::Clause(_) | Said::Row(_), _, _) => Err(Wrong::LateClause),
+        (Said::Allowance(_), Stage::Allowance, _) => Err(Wrong::SecondAllowance),
+        (Said::Allowance(_), Stage::Calls | Stage::Steps, _) => Err(Wrong::LateAllowance),
+        (Said::Allowance(_), _, _) => Ok(Stage::Allowance),
+        (Said::Step(_), _, _) => Ok(Stage::Steps),
     }
 }
 
+/// Puts a clause at the end of a row.
+fn put_clause(row: &mut Vec<u16>, literals: &[u16]) -> Result<(), AllocError>
+    ensures { OnOk result (vec_items row.new ≡ vec_items row.old ++ counted literals.now) }
+{
+    row.push(u16::try_from(literals.len()).unwrap_or(u16::MAX))?;
+    row.extend_from_slice(literals)
+}
+
 fn put(heap: Global, book: &mut Book, line: usize, said: Said) -> Result<(), AllocError>
-    ensures { OnOk result (contents_of book.new ≡ adds line (contents_of book.old) said) }
+    ensures { OnOk result (contents_of book.new ≡ adds line (contents_of book.old) (saying_of said)) }
 {
     match (said, &mut book.claims) {
         (Said::Nothing, _) => {}
@@ -67,7 +103,11 @@ fn put(heap: Global, book: &mut Book, line: usize, said: Said) -> Result<(), All
         (Said::Bound(bound), Claims::Distance(bounds)) => bounds.push(bound)?,
         // Lines are read by the book's theory, so no claim of the other one comes.
         (Said::Claim(_), Claims::Distance(_)) | (Said::Bound(_), Claims::Equality(_)) => {}
+        (Said::Clause(literals), _) => put_clause(&mut book.row, &literals)?,
+        (Said::Row(numbers), _) => book.row.extend_from_slice(&numbers)?,
+        (Said::Allowance(allowance), _) => book.allowance = allowance,
         (Said::Call(call), _) => book.calls.push(Asked { line, call })?,
+        (Said::Step(step), _) => book.steps.push(step)?,
     }
     Ok(())
 }
@@ -75,29 +115,29 @@ fn put(heap: Global, book: &mut Book, line: usize, said: Said) -> Result<(), All
 #[tactic(auto, unfolding(crate::specs::Books::turn))]
 fn read_line(
     heap: Global,
+    purpose: Purpose,
     book: &mut Book,
     stage: Stage,
     line: usize,
     bytes: &[u8],
 ) -> Result<Stage, Unread>
-    ensures { Tells result (λ s. (s, contents_of book.new)) (turn line stage (contents_of book.old) bytes.now) }
+    ensures { Tells result (λ s. (s, contents_of book.new)) (turn purpose line stage (contents_of book.old) bytes.now) }
 {
     let words = words(heap, bytes)?;
-    let at_line = |wrong| Fault { line, wrong };
-    let said = meaning(theory(stage, book), &words).map_err(at_line)?;
-    let stage = next(stage, said).map_err(at_line)?;
+    let said = meaning(heap, theory(stage, book), &words).map_err(|unsaid| unsaid.at(line))?;
+    let stage = next(purpose, stage, &said).map_err(|wrong| Fault { line, wrong })?;
     put(heap, book, line, said)?;
     Ok(stage)
 }
 
-/// Reads a book: what the text means, or its first fault.
-pub fn read(heap: Global, text: &[u8]) -> Result<Book, Unread>
-    ensures { Tells result contents_of (meant text.now) }
+/// Reads a book for its purpose: what the text means then, or its first fault.
+pub fn read(heap: Global, purpose: Purpose, text: &[u8]) -> Result<Book, Unread>
+    ensures { Tells result contents_of (meant purpose text.now) }
 {
     let mut book = blank(heap);
     let mut stage = Stage::Start;
     for (i, bytes) in Lines(text).enumerate() {
-        stage = read_line(heap, &mut book, stage, i + 1, bytes)?;
+        stage = read_line(heap, purpose, &mut book, stage, i + 1, bytes)?;
     }
     match stage {
         Stage::Start => Err(Unread::Fault(Fault {

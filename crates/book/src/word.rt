@@ -13,7 +13,11 @@ pub enum Kind {
     Theory,
     Term,
     Claim,
+    Clause,
+    Row,
+    Allowance,
     Call,
+    Step,
 }
 
 /// The name of a call.
@@ -25,6 +29,21 @@ pub enum Ask {
     Write,
     Trial,
     Close,
+}
+
+/// The name of a step.
+#[derive(Clone, Copy, PartialEq, Eq, Debug)]
+pub enum Rule {
+    Decide,
+    Propagate,
+    Imply,
+    Conflict,
+    Clash,
+    Resolve,
+    Jump,
+    Forget,
+    Fit,
+    NoFit,
 }
 
 /// The name of a theory.
@@ -39,6 +58,7 @@ pub enum Sort {
 pub enum Name {
     Kind(Kind),
     Ask(Ask),
+    Rule(Rule),
     Sort(Sort),
 }
 
@@ -51,13 +71,27 @@ impl Name {
             Name::Kind(Kind::Theory) => "theory",
             Name::Kind(Kind::Term) => "term",
             Name::Kind(Kind::Claim) => "claim",
+            Name::Kind(Kind::Clause) => "clause",
+            Name::Kind(Kind::Row) => "row",
+            Name::Kind(Kind::Allowance) => "allowance",
             Name::Kind(Kind::Call) => "call",
+            Name::Kind(Kind::Step) => "step",
             Name::Ask(Ask::Assert) => "assert",
             Name::Ask(Ask::TakeBack) => "takeback",
             Name::Ask(Ask::Query) => "query",
             Name::Ask(Ask::Write) => "write",
             Name::Ask(Ask::Trial) => "trial",
             Name::Ask(Ask::Close) => "close",
+            Name::Rule(Rule::Decide) => "decide",
+            Name::Rule(Rule::Propagate) => "propagate",
+            Name::Rule(Rule::Imply) => "imply",
+            Name::Rule(Rule::Conflict) => "conflict",
+            Name::Rule(Rule::Clash) => "clash",
+            Name::Rule(Rule::Resolve) => "resolve",
+            Name::Rule(Rule::Jump) => "jump",
+            Name::Rule(Rule::Forget) => "forget",
+            Name::Rule(Rule::Fit) => "fit",
+            Name::Rule(Rule::NoFit) => "nofit",
             Name::Sort(Sort::Equality) => "equality",
             Name::Sort(Sort::Distance) => "distance",
         }
@@ -71,17 +105,31 @@ impl fmt::Display for Name {
     }
 }
 
-const NAMES: [Name; 12] = [
+const NAMES: [Name; 26] = [
     Name::Kind(Kind::Theory),
     Name::Kind(Kind::Term),
     Name::Kind(Kind::Claim),
+    Name::Kind(Kind::Clause),
+    Name::Kind(Kind::Row),
+    Name::Kind(Kind::Allowance),
     Name::Kind(Kind::Call),
+    Name::Kind(Kind::Step),
     Name::Ask(Ask::Assert),
     Name::Ask(Ask::TakeBack),
     Name::Ask(Ask::Query),
     Name::Ask(Ask::Write),
     Name::Ask(Ask::Trial),
     Name::Ask(Ask::Close),
+    Name::Rule(Rule::Decide),
+    Name::Rule(Rule::Propagate),
+    Name::Rule(Rule::Imply),
+    Name::Rule(Rule::Conflict),
+    Name::Rule(Rule::Clash),
+    Name::Rule(Rule::Resolve),
+    Name::Rule(Rule::Jump),
+    Name::Rule(Rule::Forget),
+    Name::Rule(Rule::Fit),
+    Name::Rule(Rule::NoFit),
     Name::Sort(Sort::Equality),
     Name::Sort(Sort::Distance),
 ];

@@ -1,4 +1,5 @@
 //! The answers of a theory to the calls of a book, one line for each.
+use crate::text::{put_fit, put_row};
 use book::{Asked, Call};
 use std::alloc::{AllocError, Global};
 use std::fmt;
@@ -58,14 +59,6 @@ impl<'t, T: Theory> Session<'t, T> {
         writeln!(self.out, "{call}: refused {number}")
     }
 
-    /// The first of some numbers, each with a blank before it, and the line's end.
-    fn row<N: fmt::Display>(&mut self, numbers: &[N], len: usize) -> Result<(), AllocError> {
-        for number in numbers.iter().take(len) {
-            write!(self.out, " {number}")?;
-        }
-        writeln!(self.out)
-    }
-
     fn query(&mut self, len: Option<u16>) -> Result<(), AllocError> {
         let call = Call::Query(len);
         let room = len.map_or(self.theory.claims(), usize::from);
@@ -74,7 +67,7 @@ impl<'t, T: Theory> Session<'t, T> {
             Ok(Found::Possible) => writeln!(self.out, "{call}: possible"),
             Ok(Found::Impossible(n)) => {
                 write!(self.out, "{call}: impossible")?;
-                self.row(&core, n)
+                put_row(&mut self.out, core.get(..n).unwrap_or(&core))
             }
             Err(refusal) => self.refused(call, refusal),
         }
@@ -88,10 +81,7 @@ impl<'t, T: Theory> Session<'t, T> {
         match self.theory.write(&mut place) {
             Ok(()) => {
                 write!(self.out, "{call}:")?;
-                if terms == 0 {
-                    write!(self.out, " -")?;
-                }
-                self.row(&place, terms)
+                put_fit(&mut self.out, place.get(..terms).unwrap_or(&place))
             }
             Err(refusal) => self.refused(call, refusal),
         }

@@ -1,10 +1,14 @@
-//! The command-line tool: `inkstep ask FILE` answers the calls of a book.
+//! The command-line tool: `inkstep ask FILE` answers the calls of a book, `inkstep replay FILE` runs the steps of a history.
 #![tactic(auto)]
 
 mod answers;
+mod replays;
+mod text;
 
 use answers::{Unanswered, answers};
-use book::{Asked, Claims, Unread};
+use book::{Book, Claims, Purpose, Unread};
+use replays::{replayed, replayed_with_states};
+use rules::Unopened;
 use std::alloc::{AllocError, Global};
 use std::io::Read;
 use std::process::ExitCode;
@@ -12,17 +16,19 @@ use std::{env, fmt, fs, io};
 use theory::{Theory, Unmade};
 
 const USAGE: &str = "usage:
-    inkstep ask FILE ..    answer the calls of books; - is standard input
-    inkstep help           print this
+    inkstep ask FILE ..                 answer the calls of books; - is standard input
+    inkstep replay [--state] FILE ..    run the steps of histories; --state shows the trail and the conflict after each
+    inkstep help                        print this
 ";
 
-/// Why a file has no answers.
+/// Why nothing is printed for a file.
 #[derive(Debug, Drop)]
 enum Failure {
     NoFile(io::Error),
     Unread(Unread),
     Unmade(Unmade),
     Unanswered(Unanswered),
+    Unopened(Unopened),
 }
 
 impl fmt::Display for Failure {
@@ -32,6 +38,7 @@ impl fmt::Display for Failure {
             Failure::Unread(e) => write!(f, "{e}"),
             Failure::Unmade(e) => write!(f, "{e}"),
             Failure::Unanswered(e) => write!(f, "{e}"),
+            Failure::Unopened(e) => write!(f, "{e}"),
         }
     }
 }
@@ -70,22 +77,28 @@ impl From<Unanswered> for Failure {
     }
 }
 
+impl From<Unopened> for Failure {
+    fn from(e: Unopened) -> Failure {
+        Failure::Unopened(e)
+    }
+}
+
 impl From<AllocError> for Failure {
     fn from(e: AllocError) -> Failure {
         Failure::Unanswered(Unanswered::from(e))
     }
 }
 
-/// A file that has no answers, and why.
+/// A file that nothing is printed for, and why.
 #[derive(Debug, Drop)]
-struct Unasked<'a> {
+struct Failed<'a> {
     file: &'a str,
     failure: Failure,
 }
 
-impl<'a> fmt::Display for Unasked<'a> {
+impl<'a> fmt::Display for Failed<'a> {
     fn fmt<W: fmt::Write>(&self, f: &mut fmt::Formatter<W>) -> fmt::Result {
-        let Unasked { file, failure } = self;
+        let Failed { file, failure } = self;
         let gap = if failure.has_line() { "" } else { " " };
         write!(f, "{file}:{gap}{failure}")
     }
@@ -100,34 +113,64 @@ fn bytes_of(rt: &HostRuntime, file: &str) -> io::Result<Vec<u8>> {
     Ok(bytes)
 }
 
-/// The answers of a theory to calls.
-fn served<T: Theory + Drop>(
-    heap: Global,
-    made: Result<T, Unmade>,
-    calls: &[Asked],
-) -> Result<String, Failure> {
-    let text = answers(heap, &mut made?, calls)?;
-    Ok(text)
+/// What is done with books.
+#[derive(Clone, Copy, PartialEq, Eq, Debug)]
+enum Command {
+    Ask,
+    Replay { states: bool },
 }
 
-/// The answers to the calls of a book.
-fn ask(rt: &HostRuntime, file: &str) -> Result<String, Failure> {
-    let heap = rt.alloc();
-    let bytes = bytes_of(rt, file)?;
-    let book = book::read(heap, &bytes)?;
-    match &book.claims {
-        Claims::Equality(claims) => {
-            served(heap, equality::make(heap, &book.terms, claims), &book.calls)
-        }
-        Claims::Distance(claims) => {
-            served(heap, distance::make(heap, &book.terms, claims), &book.calls)
+impl Command {
+    fn purpose(self) -> Purpose {
+        match self {
+            Command::Ask => Purpose::Ask,
+            Command::Replay { .. } => Purpose::Replay,
         }
     }
 }
 
-/// Adds the answers of a book, below its name if they are `named`.
-fn add(rt: &HostRuntime, file: &str, named: bool, out: &mut String) -> Result<(), Failure> {
-    let text = ask(rt, file)?;
+/// What a theory says to a book.
+fn served<T: Theory + Drop>(
+    heap: Global,
+    made: Result<T, Unmade>,
+    command: Command,
+    book: &Book,
+) -> Result<String, Failure> {
+    let mut theory = made?;
+    let text = match command {
+        Command::Ask => answers(heap, &mut theory, &book.calls)?,
+        Command::Replay { states: false } => replayed(heap, theory, book)?,
+        Command::Replay { states: true } => replayed_with_states(heap, theory, book)?,
+    };
+    Ok(text)
+}
+
+/// What is said to one book.
+fn told(rt: &HostRuntime, command: Command, file: &str) -> Result<String, Failure> {
+    let heap = rt.alloc();
+    let bytes = bytes_of(rt, file)?;
+    let book = book::read(heap, command.purpose(), &bytes)?;
+    match &book.claims {
+        Claims::Equality(claims) => {
+            let made = equality::make(heap, &book.terms, claims);
+            served(heap, made, command, &book)
+        }
+        Claims::Distance(claims) => {
+            let made = distance::make(heap, &book.terms, claims);
+            served(heap, made, command, &book)
+        }
+    }
+}
+
+/// Adds what is said to a book, below its name if they are `named`.
+fn add(
+    rt: &HostRuntime,
+    command: Command,
+    file: &str,
+    named: bool,
+    out: &mut String,
+) -> Result<(), Failure> {
+    let text = told(rt, command, file)?;
     if named {
         writeln!(out, "{file}:")?;
     }
@@ -135,33 +178,49 @@ fn add(rt: &HostRuntime, file: &str, named: bool, out: &mut String) -> Result<()
     Ok(())
 }
 
-/// The answers of each book, of several below the book's name.
-fn ask_all<'a>(rt: &HostRuntime, files: &'a [String]) -> Result<String, Unasked<'a>> {
+/// What is said to each book, to several below the book's name.
+fn tell_all<'a>(
+    rt: &HostRuntime,
+    command: Command,
+    files: &'a [String],
+) -> Result<String, Failed<'a>> {
     let mut out = String::new(rt.alloc());
     let named = files.len() > 1;
     for name in files {
         let file = name.as_str();
-        add(rt, file, named, &mut out).map_err(|failure| Unasked { file, failure })?;
+        add(rt, command, file, named, &mut out).map_err(|failure| Failed { file, failure })?;
     }
     Ok(out)
 }
 
+/// The command that some words name, and its files.
+fn command_of(words: &[String]) -> Option<(Command, &[String])> {
+    let (name, rest) = words.split_first()?;
+    let (command, files) = match (name.as_str(), rest) {
+        ("ask", files) => (Command::Ask, files),
+        ("replay", [flag, files @ ..]) if flag.as_str() == "--state" => {
+            (Command::Replay { states: true }, files)
+        }
+        ("replay", files) => (Command::Replay { states: false }, files),
+        _ => return None,
+    };
+    (!files.is_empty()).then_some((command, files))
+}
+
 /// Runs the command that the words name. An error is of a standard stream, where nothing more can be said.
 fn run(rt: &HostRuntime, words: &[String]) -> io::Result<ExitCode> {
-    match words {
-        [] => rt.print(USAGE)?,
-        [word] if word.as_str() == "help" => rt.print(USAGE)?,
-        [word, files @ ..] if word.as_str() == "ask" && !files.is_empty() => {
-            match ask_all(rt, files) {
-                Ok(text) => rt.print(text)?,
-                Err(unasked) => {
-                    eprintln!(rt; "{unasked}")?;
-                    return Ok(ExitCode::FAILURE);
-                }
-            }
-        }
-        _ => {
-            rt.eprint(USAGE)?;
+    if words.is_empty() || matches!(words, [word] if word.as_str() == "help") {
+        rt.print(USAGE)?;
+        return Ok(ExitCode::SUCCESS);
+    }
+    let Some((command, files)) = command_of(words) else {
+        rt.eprint(USAGE)?;
+        return Ok(ExitCode::FAILURE);
+    };
+    match tell_all(rt, command, files) {
+        Ok(text) => rt.print(text)?,
+        Err(failed) => {
+            eprintln!(rt; "{failed}")?;
             return Ok(ExitCode::FAILURE);
         }
     }

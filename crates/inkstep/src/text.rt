@@ -1,0 +1,19 @@
+//! Pieces of lines that are printed.
+use std::alloc::AllocError;
+use std::fmt;
+
+/// Some numbers, each with a blank before it, and the line's end.
+pub fn put_row<N: fmt::Display>(out: &mut String, numbers: &[N]) -> Result<(), AllocError> {
+    for number in numbers {
+        write!(out, " {number}")?;
+    }
+    writeln!(out)
+}
+
+/// The numbers of a fit, or a `-` where there are none, and the line's end.
+pub fn put_fit(out: &mut String, numbers: &[i64]) -> Result<(), AllocError> {
+    if numbers.is_empty() {
+        write!(out, " -")?;
+    }
+    put_row(out, numbers)
+}
