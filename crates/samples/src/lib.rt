@@ -8,4 +8,6 @@ mod distant;
 #[cfg(test)]
 mod equal;
 #[cfg(test)]
+mod runs;
+#[cfg(test)]
 mod texts;

@@ -1,7 +1,7 @@
 //! Tests of texts with faults, and of what a book of distances gives.
 use crate::distant::apart;
-use book::word::{Ask, Kind, Name};
-use book::{Claims, Fault, Unread, Wrong};
+use book::word::{Ask, Kind, Name, Rule};
+use book::{Claims, Fault, Proposed, Purpose, Unread, Wrong};
 use std::alloc::Global;
 use std::test::Fail;
 
@@ -9,9 +9,14 @@ fn fault(line: usize, wrong: Wrong) -> Option<Unread> {
     Some(Unread::Fault(Fault { line, wrong }))
 }
 
-/// Why a text is no book.
+/// Why a text is no book to ask.
 fn unread(heap: Global, text: &str) -> Option<Unread> {
-    book::read(heap, text.as_bytes()).err()
+    book::read(heap, Purpose::Ask, text.as_bytes()).err()
+}
+
+/// Why a text is no book to replay.
+fn unplayed(heap: Global, text: &str) -> Option<Unread> {
+    book::read(heap, Purpose::Replay, text.as_bytes()).err()
 }
 
 const CLAIM: Name = Name::Kind(Kind::Claim);
@@ -124,7 +129,9 @@ claim 1 1 -0
 
 #[test]
 fn bounds_as_written(rt: HostRuntime) -> Result<(), Fail> {
-    let book = book::read(rt.alloc(), FAR.as_bytes()).map_err(|_| Fail::new("no book"))?;
+    let book = book::read(rt.alloc(), Purpose::Ask, FAR.as_bytes()).map_err(|_| Fail::new(
+        "no book",
+    ))?;
     let Claims::Distance(bounds) = &book.claims else {
         return Err(Fail::new("no book of distances"));
     };
@@ -138,5 +145,99 @@ fn bounds_as_written(rt: HostRuntime) -> Result<(), Fail> {
         ]
         .as_slice()
     );
+    Ok(())
+}
+
+#[test]
+fn history_faults(rt: HostRuntime) {
+    let heap = rt.alloc();
+    for (text, wrong) in [
+        ("clause 0\nterm 1\n", Wrong::LateTerm),
+        ("row 0\nclaim 0 0\n", Wrong::LateClaim),
+        ("allowance 9\nrow 0\n", Wrong::LateClause),
+        ("step clash\nclause 0\n", Wrong::LateClause),
+        ("clause 0\nrow 0\n", Wrong::ClausesAndRows),
+        ("row\nclause\n", Wrong::ClausesAndRows),
+        ("allowance 9\nallowance 9\n", Wrong::SecondAllowance),
+        ("step clash\nallowance 9\n", Wrong::LateAllowance),
+        ("clause 0\ncall query\n", Wrong::CallsToReplay),
+        ("clause\nclause 65536\n", Wrong::TooLarge { most: 65535 }),
+        ("row\nrow -1\n", Wrong::NoNumber),
+        (
+            "\nallowance 4294967296\n",
+            Wrong::TooLarge { most: 4294967295 },
+        ),
+        (
+            "\nstep jump 4294967296 512\n",
+            Wrong::TooLarge { most: 4294967295 },
+        ),
+        ("\nstep jump 0 65536\n", Wrong::TooLarge { most: 65535 }),
+        ("\nstep fit 65536\n", Wrong::TooLarge { most: 65535 }),
+        ("\nstep assert 0\n", Wrong::NoSuchStep),
+        (
+            "\nstep propagate 0\n",
+            Wrong::Missing {
+                after: Name::Rule(Rule::Propagate),
+            },
+        ),
+        (
+            "\nstep nofit 0\n",
+            Wrong::TooMany {
+                after: Name::Rule(Rule::NoFit),
+            },
+        ),
+    ] {
+        let mut book = String::new(heap);
+        assert_eq!(rt; write!(book, "theory equality\n{text}").is_ok(), true);
+        assert_eq!(rt; unplayed(heap, book.as_str()), fault(3, wrong));
+    }
+    assert_eq!(rt; unplayed(heap, "step clash\n"), fault(1, Wrong::NoTheory));
+    assert_eq!(rt;
+        unread(heap, "theory equality\nstep clash\n"),
+        fault(2, Wrong::HistoryToAsk)
+    );
+}
+
+/// A book of a history, whose numbers are as far as its lines hold them.
+const LONG: &str = "theory equality
+clause 1 65535
+clause
+allowance 0
+step decide 65535
+step jump 4294967295 65535
+step fit
+step fit 65535
+step nofit
+";
+
+#[test]
+fn history_as_written(rt: HostRuntime) -> Result<(), Fail> {
+    let book = book::read(rt.alloc(), Purpose::Replay, LONG.as_bytes()).map_err(|_| Fail::new(
+        "no book",
+    ))?;
+    assert_eq!(rt; book.row.as_slice(), [2, 1, 65535, 0].as_slice());
+    assert_eq!(rt; book.allowance, 0);
+    assert_eq!(rt;
+        book.steps.as_slice(),
+        [
+            Proposed::Decide(65535),
+            Proposed::Jump(u32::MAX, 65535),
+            Proposed::Fit(None),
+            Proposed::Fit(Some(65535)),
+            Proposed::NoFit,
+        ]
+        .as_slice()
+    );
+    Ok(())
+}
+
+#[test]
+fn no_allowance_named(rt: HostRuntime) -> Result<(), Fail> {
+    let text = "theory distance\nrow 7\nrow 1 2 3\n";
+    let book = book::read(rt.alloc(), Purpose::Replay, text.as_bytes()).map_err(|_| Fail::new(
+        "no book",
+    ))?;
+    assert_eq!(rt; book.row.as_slice(), [7, 1, 2, 3].as_slice());
+    assert_eq!(rt; book.allowance, u32::MAX);
     Ok(())
 }
