@@ -50,7 +50,7 @@ clauses_stop row count rest f h =
     ap clauses_in f.0 ∙ ap (λ b. cond b (take count rest ∷ first_clauses (length rest) (drop count rest)) []) (lt-leb count (length rest) h)
 
 -- the row of a book has the book's clauses
-pub clauses_row : (book : List (List ℕ)) → clauses_in (row_of book) ≡ book
+clauses_row : (book : List (List ℕ)) → clauses_in (row_of book) ≡ book
 clauses_row [] = clauses_none [] refl
 clauses_row (c ∷ cs) =
     clauses_first (length c ∷ c ++ row_of cs) (length c) (length c) (c ++ row_of cs) c (row_of cs) (refl, add-one (length (c ++ row_of cs))) refl

@@ -1,51 +1,20 @@
 -- The one list of a set of literals. Assumes nothing.
 use Rattle.std.proofs.Common.{◌≡◌, ℕ, zero, suc, ◌+◌, ◌<◌, ◌≤◌, Bool, true, false, not, ◌&&◌, ◌||◌, ◌==◌, eqb, List, [], ◌∷◌, ◌++◌, length, get_or, take, set, sym, refl, ap, ◌∙◌, ⊎_elim, append-nil, add-zero, zero-add, add-one, replicate, arith, get_or-set_other, get_or-set_same, is_none, slice_get, IsTrue, ◌↔◌, EachIndex}
-use Rattle.std.proofs.lemmas.Bool.{or_cases, or_right, eq-eqb, ne_eqb, eqb-true, cases_eq, and_from, not_from_false, false_from_ne_true}
+use Rattle.std.proofs.lemmas.Bool.{or_left, or_right, eq-eqb, ne_eqb, cases_eq, and_from, not_from_false}
 use Rattle.std.proofs.lemmas.List.{take_more, take_all, length_push, get_or-replicate}
+use Rattle.std.proofs.Math.Bool.{or-false, and-false}
+use Rattle.std.specs.Cmp.{both_ways as same_truth}
 use Rattle.theory.specs.Literals.{has, complement}
 use Rattle.theory.specs.Positions.{put, listed}
-use Rattle.theory.proofs.Positions.{listed_has, listed_only, listed_same}
 use Rattle.rules.specs.Clauses.{set_of}
 use Rattle.rules.specs.Rules.{resolved}
+use Rattle.rules.proofs.Lists.{has_push}
+use Rattle.rules.proofs.Clauses.{set_has, set_same}
 use Rattle.clauses.specs.declared.set.LiteralSet.{LiteralSet}
 use Rattle.clauses.specs.Sets.{members}
 
-listed_below : (low count : ℕ) (test : ℕ → Bool) (k : ℕ) → has (listed low count test) k ≡ true → k < low + count
-unfolding listed
-listed_below low zero test k e = cc
-listed_below low (suc count) test k e = go (listed_below (low + 1) count test k) (test low) e
-  where
-    go : (has (listed (low + 1) count test) k ≡ true → k < (low + 1) + count) → (b : Bool)
-        → has (put b low (listed (low + 1) count test)) k ≡ true → k < low + suc count
-    go later true h =
-        ⊎_elim (λ (x : eqb low k ≡ true). omega (arith, eqb-true low k x))
-        (λ (x : has (listed (low + 1) count test) k ≡ true). omega (arith, later x))
-        (or_cases (eqb low k) (has (listed (low + 1) count test) k) h)
-    go later false h = omega (arith, later h)
-
--- two tests that pass together are one
-both : (a b : Bool) → (a ≡ true → b ≡ true) → (b ≡ true → a ≡ true) → a ≡ b
-both true b f g = sym (f refl)
-both false true f g = g refl
-both false false f g = refl
-
--- a set has the literals that pass its test
-pub set_has : (p : ℕ → Bool) (m : ℕ) → m < 256 → has (set_of p) m ≡ p m
-set_has p m h = both _ _ (listed_only 0 256 p m) (listed_has 0 256 p m (omega arith) (omega arith))
-
--- and no other number
-pub set_lacks : (p : ℕ → Bool) (m : ℕ) → 256 ≤ m → has (set_of p) m ≡ false
-set_lacks p m h = false_from_ne_true _ (λ e. let y = listed_below 0 256 p m e in omega arith)
-
--- tests that agree on the literals give one set
-pub set_same : (p q : ℕ → Bool) → ((m : ℕ) → m < 256 → p m ≡ q m) → set_of p ≡ set_of q
-set_same p q h = listed_same 0 256 p q (λ m a b. h m (omega arith))
-
-pub set_set : (p : ℕ → Bool) → set_of (has (set_of p)) ≡ set_of p
-set_set p = set_same _ _ (set_has p)
-
 pub members_set : (s : LiteralSet) → set_of (has (members s)) ≡ members s
-members_set s = set_set _
+members_set s = set_same _ _ (set_has _)
 
 -- ---- one mark
 
@@ -53,12 +22,8 @@ members_set s = set_set _
 abbrev pub with : List ℕ → ℕ → Bool → ℕ → Bool
 with C l b m = (m == l && b) || (not (m == l) && has C m)
 
-or_false : (b : Bool) → (b || false) ≡ b
-or_false true = refl
-or_false false = refl
-
 with_here : (C : List ℕ) (l : ℕ) (b : Bool) (m : ℕ) → m ≡ l → with C l b m ≡ b
-with_here C l b m e = rw (eq-eqb m l e) (or_false b)
+with_here C l b m e = rw (eq-eqb m l e) (or-false b)
 
 with_other : (C : List ℕ) (l : ℕ) (b : Bool) (m : ℕ) → (m ≡ l → ⊥) → with C l b m ≡ has C m
 with_other C l b m e = rw (ne_eqb m l e)
@@ -84,22 +49,14 @@ put_in p q l here others = set_same _ _ (λ m k.
     (λ (e : m ≡ l → ⊥). with_other _ l true m e ∙ set_has p m k ∙ others m e)
     (cases_eq m l))
 
-has_push : (xs : List ℕ) (x m : ℕ) → has (xs ++ x ∷ []) m ≡ (has xs m || eqb x m)
-has_push [] x m = or_false (eqb x m)
-has_push (y ∷ ys) x m = rw (has_push ys x m) (go (eqb y m))
-  where
-    go : (a : Bool) → (a || (has ys m || eqb x m)) ≡ ((a || has ys m) || eqb x m)
-    go true = refl
-    go false = refl
-
-has_more : (R : List ℕ) (i m : ℕ) → i < length R → has (take (i + 1) R) m ≡ (has (take i R) m || eqb (get_or R i 0) m)
+has_more : (R : List ℕ) (i m : ℕ) → i < length R → has (take (i + 1) R) m ≡ (eqb (get_or R i 0) m || has (take i R) m)
 has_more R i m h = ap (λ xs. has xs m) (take_more R i 0 h) ∙ has_push (take i R) (get_or R i 0) m
 
 has_here : (R : List ℕ) (i : ℕ) → i < length R → has (take (i + 1) R) (get_or R i 0) ≡ true
-has_here R i h = let l = get_or R i 0 in has_more R i l h ∙ or_right (has (take i R) l) (eqb l l) (eq-eqb l l refl)
+has_here R i h = let l = get_or R i 0 in has_more R i l h ∙ or_left (eqb l l) (has (take i R) l) (eq-eqb l l refl)
 
 has_other : (R : List ℕ) (i m : ℕ) → i < length R → (m ≡ get_or R i 0 → ⊥) → has (take i R) m ≡ has (take (i + 1) R) m
-has_other R i m h e = sym (has_more R i m h ∙ rw (ne_eqb (get_or R i 0) m (λ x. e (sym x))) (or_false (has (take i R) m)))
+has_other R i m h e = sym (has_more R i m h ∙ ap (λ b. b || has (take i R) m) (ne_eqb (get_or R i 0) m (λ x. e (sym x))))
 
 pub of_none : set_of (λ m. get_or (replicate 256 false) m false) ≡ set_of (has [])
 of_none = set_same _ _ (λ m k. get_or-replicate 256 m false false k)
@@ -131,15 +88,9 @@ pub resolve_skip : (C : List ℕ) (l : ℕ) (R : List ℕ) (i : ℕ) → i < len
 resolve_skip C l R i h is = set_same _ _ (λ m k.
     ap (λ b. (has C m && not (m == complement l)) || b)
     (⊎_elim
-    (λ (e : m ≡ l). rw (eq-eqb m l e) (both_off (has (take i R) m) (has (take (i + 1) R) m)))
+    (λ (e : m ≡ l). rw (eq-eqb m l e) (and-false (has (take i R) m) ∙ sym (and-false (has (take (i + 1) R) m))))
     (λ (e : m ≡ l → ⊥). ap (λ b. b && not (m == l)) (has_other R i m h (λ x. e (x ∙ is))))
     (cases_eq m l)))
-  where
-    both_off : (a b : Bool) → (a && false) ≡ (b && false)
-    both_off true true = refl
-    both_off true false = refl
-    both_off false true = refl
-    both_off false false = refl
 
 -- ---- no literal
 
@@ -150,7 +101,7 @@ none_listed low (suc count) = none_listed (low + 1) count
 
 pub empty_set : (marks : List Bool) (r : Bool) → length marks ≡ 256 → (IsTrue r ↔ EachIndex marks (λ k. get_or marks k false ≡ false))
     → r ≡ is_none (slice_get (set_of (λ m. get_or marks m false)) 0)
-empty_set marks r long h = both _ _
+empty_set marks r long h = same_truth _ _
     (λ e. ap (λ xs. is_none (slice_get xs 0)) (set_same _ (λ m. false) (λ m k. h.0 e m (omega arith)) ∙ none_listed 0 256))
     (λ e. h.1 (λ k b. sym (set_has _ k (omega arith)) ∙ ap (λ xs. has xs k) (nothing _ e)))
   where

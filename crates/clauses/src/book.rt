@@ -16,7 +16,7 @@ pub struct Book {
 }
 
 impl Book {
-    ghost use Rattle.std.specs.Prelude.{length, slice_get};
+    ghost use Rattle.std.specs.Prelude.{slice_get};
     ghost use Rattle.std.specs.Option.{option_copied};
     ghost use Rattle.clauses.specs.Rows.{Reads};
     ghost use Rattle.clauses.specs.Learning.{book_of};
@@ -34,13 +34,6 @@ impl Book {
         let starts = list_starts(heap, row)?;
         let row = row.iter().copied().collect(heap)?;
         Ok(Book { row, starts })
-    }
-
-    /// How many clauses there are.
-    pub fn len(&self) -> usize
-        ensures { result ≡ length (book_of self.now) }
-    {
-        self.starts.len()
     }
 
     /// The clauses, one by one.

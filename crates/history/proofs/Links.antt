@@ -30,7 +30,7 @@ use Rattle.history.proofs.Blames.{explains_push, rising_few, blamed_whole, blame
 -- ---- outcomes
 
 -- what holds of an accepted state and of the one before holds of the one that is left
-pub left : {P : State → Type 0} (s : State) (o : Outcome) → Leads P o → P s → P (leaves s o)
+left : {P : State → Type 0} (s : State) (o : Outcome) → Leads P o → P s → P (leaves s o)
 left s (Ok s') h p = h.to
 left s (Err r) h p = p
 
@@ -40,7 +40,7 @@ counted_left s (Ok s') h e = h.to
 counted_left s (Err r) h e = cc
 
 -- and a refused step leaves the state
-pub refused_left : (s : State) (o : Outcome) {r : Refusal} → Err r ≡ says o → leaves s o ≡ s
+refused_left : (s : State) (o : Outcome) {r : Refusal} → Err r ≡ says o → leaves s o ≡ s
 refused_left s (Ok s') e = cc
 refused_left s (Err r) e = refl
 
@@ -99,24 +99,28 @@ moved means {a = a} {ys = ys} {t = t} {sure = sure} e f k =
 
 module _ (M : Meaning) {xs : List ℕ} {t t' : Table} {sure : Bool} (k : Linked M xs t sure) (claims : claims_of t' ≡ claims_of t) where
   -- a step that leaves the trail
-  pub stays : (x : Step) → blames_of t' ≡ blames_of t → state_of t' ≡ after M (state_of t) x → (state_of t').trail ≡ (state_of t).trail → Linked M xs t' sure
-  stays x blames state trail = record {
-    claims = k.claims ∙ sym claims;
-    same = k.same ∙ ap asserted (sym trail);
-    reached = subst (Reached M) (sym state) (reached_after M (state_of t) k.reached x);
-    explains = subst (λ b. Explains M b (state_of t').trail) (sym blames) (subst (Explains M (blames_of t)) (sym trail) k.explains);
-    found = λ e. ap (λ z. M.answer (asserted z)) trail ∙ k.found e;
-  }
+  pub stays : (x : Step) → blames_of t' ≡ blames_of t → state_of t' ≡ after M (state_of t) x → SameTrail (state_of t) (after M (state_of t) x) → Linked M xs t' sure
+  stays x blames state same =
+      let trail : (state_of t').trail ≡ (state_of t).trail = ap (λ z. z.trail) state ∙ same in
+      record {
+        claims = k.claims ∙ sym claims;
+        same = k.same ∙ ap asserted (sym trail);
+        reached = subst (Reached M) (sym state) (reached_after M (state_of t) k.reached x);
+        explains = subst (λ b. Explains M b (state_of t').trail) (sym blames) (subst (Explains M (blames_of t)) (sym trail) k.explains);
+        found = λ e. ap (λ z. M.answer (asserted z)) trail ∙ k.found e;
+      }
 
   -- a refused step
-  pub declines : blames_of t' ≡ blames_of t → state_of t' ≡ state_of t → Linked M xs t' sure
-  declines blames state = record {
-    claims = k.claims ∙ sym claims;
-    same = k.same ∙ ap (λ z. asserted z.trail) (sym state);
-    reached = subst (Reached M) (sym state) k.reached;
-    explains = subst (λ b. Explains M b (state_of t').trail) (sym blames) (subst (λ z. Explains M (blames_of t) z.trail) (sym state) k.explains);
-    found = λ e. ap (λ z. M.answer (asserted z.trail)) state ∙ k.found e;
-  }
+  pub declines : {r : Refusal} (o : Outcome) → blames_of t' ≡ blames_of t → Err r ≡ says o → state_of t' ≡ leaves (state_of t) o → Linked M xs t' sure
+  declines o blames says state =
+      let kept : state_of t' ≡ state_of t = state ∙ refused_left (state_of t) o says in
+      record {
+        claims = k.claims ∙ sym claims;
+        same = k.same ∙ ap (λ z. asserted z.trail) (sym kept);
+        reached = subst (Reached M) (sym kept) k.reached;
+        explains = subst (λ b. Explains M b (state_of t').trail) (sym blames) (subst (λ z. Explains M (blames_of t) z.trail) (sym kept) k.explains);
+        found = λ e. ap (λ z. M.answer (asserted z.trail)) kept ∙ k.found e;
+      }
 
   -- a step that puts a literal on the trail, for which what the theory blames is stored if it followed by the theory
   pub grows : (x : Step) (l : ℕ) (r : Reason) → state_of t' ≡ after M (state_of t) x → Pushed M.claims (state_of t) l r (state_of t')
@@ -155,19 +159,24 @@ finds {M = M} k sure' f = record {
 
 -- ---- checks that were passed, or not
 
--- what passed the checks on its literal comes to what follows them
-pub fresh_passes : (n : ℕ) (s : State) (l : ℕ) (o : Outcome) → ◌≡◌ {A = Result (Unit {0}) Refusal} (Ok tt) (unless_over s (fresh n s l (Ok tt))) → unless_over s (fresh n s l o) ≡ o
-fresh_passes n s l o e = go (is_none s.verdict) (not (eqb s.count s.allowance)) s.conflict (ltb l (2 * n)) (not (names (literals s.trail) l)) e
+-- what follows checks, or their refusal
+abbrev pub and_then : Result (Unit {0}) Refusal → Outcome → Outcome
+and_then (Ok u) o = o
+and_then (Err r) o = Err r
+
+-- after the checks on a literal
+pub fresh_then : (n : ℕ) (s : State) (l : ℕ) (o : Outcome) {checks : Result (Unit {0}) Refusal} → checks ≡ unless_over s (fresh n s l (Ok tt)) → unless_over s (fresh n s l o) ≡ and_then checks o
+fresh_then n s l o e = go (is_none s.verdict) (not (eqb s.count s.allowance)) s.conflict (ltb l (2 * n)) (not (names (literals s.trail) l)) ∙ ap (λ c. and_then c o) (sym e)
   where
     go : (v c : Bool) (C : Option (List ℕ)) (a b : Bool)
-        → ◌≡◌ {A = Result (Unit {0}) Refusal} (Ok tt) (demand v VerdictStands (demand c AllowanceUsed (without C ConflictStands (demand a refusal.NoSuchLiteral (demand b ClaimOnTrail (Ok tt))))))
-        → demand v VerdictStands (demand c AllowanceUsed (without C ConflictStands (demand a refusal.NoSuchLiteral (demand b ClaimOnTrail o)))) ≡ o
-    go true true None true true e = refl
-    go true true None true false e = cc
-    go true true None false b e = cc
-    go true true (Some C) a b e = cc
-    go true false C a b e = cc
-    go false c C a b e = cc
+        → demand v VerdictStands (demand c AllowanceUsed (without C ConflictStands (demand a refusal.NoSuchLiteral (demand b ClaimOnTrail o))))
+        ≡ and_then (demand v VerdictStands (demand c AllowanceUsed (without C ConflictStands (demand a refusal.NoSuchLiteral (demand b ClaimOnTrail (Ok tt)))))) o
+    go true true None true true = refl
+    go true true None true false = refl
+    go true true None false b = refl
+    go true true (Some C) a b = refl
+    go true false C a b = refl
+    go false c C a b = refl
 
 -- the checks of a fit that need no theory
 abbrev pub complete : {A : Type 0} → ℕ → State → Result A Refusal → Result A Refusal
@@ -175,33 +184,24 @@ complete n s o =
     without s.conflict ConflictStands (demand (all_below n (λ i. names (literals s.trail) (2 * i))) ClaimOffTrail
     (demand (list_all (list_any (true_on s.trail)) s.book) ClauseNotTrue o))
 
-pub complete_passes : (n : ℕ) (s : State) (o : Outcome) → ◌≡◌ {A = Result (Unit {0}) Refusal} (Ok tt) (unless_over s (complete n s (Ok tt))) → unless_over s (complete n s o) ≡ o
-complete_passes n s o e =
-    go (is_none s.verdict) (not (eqb s.count s.allowance)) s.conflict (all_below n (λ i. names (literals s.trail) (2 * i))) (list_all (list_any (true_on s.trail)) s.book) e
+-- and after them
+pub complete_then : (n : ℕ) (s : State) (o : Outcome) {checks : Result (Unit {0}) Refusal} → checks ≡ unless_over s (complete n s (Ok tt)) → unless_over s (complete n s o) ≡ and_then checks o
+complete_then n s o e =
+    go (is_none s.verdict) (not (eqb s.count s.allowance)) s.conflict (all_below n (λ i. names (literals s.trail) (2 * i))) (list_all (list_any (true_on s.trail)) s.book) ∙ ap (λ c. and_then c o) (sym e)
   where
     go : (v c : Bool) (C : Option (List ℕ)) (a b : Bool)
-        → ◌≡◌ {A = Result (Unit {0}) Refusal} (Ok tt) (demand v VerdictStands (demand c AllowanceUsed (without C ConflictStands (demand a ClaimOffTrail (demand b ClauseNotTrue (Ok tt))))))
-        → demand v VerdictStands (demand c AllowanceUsed (without C ConflictStands (demand a ClaimOffTrail (demand b ClauseNotTrue o)))) ≡ o
-    go true true None true true e = refl
-    go true true None true false e = cc
-    go true true None false b e = cc
-    go true true (Some C) a b e = cc
-    go true false C a b e = cc
-    go false c C a b e = cc
+        → demand v VerdictStands (demand c AllowanceUsed (without C ConflictStands (demand a ClaimOffTrail (demand b ClauseNotTrue o))))
+        ≡ and_then (demand v VerdictStands (demand c AllowanceUsed (without C ConflictStands (demand a ClaimOffTrail (demand b ClauseNotTrue (Ok tt)))))) o
+    go true true None true true = refl
+    go true true None true false = refl
+    go true true None false b = refl
+    go true true (Some C) a b = refl
+    go true false C a b = refl
+    go false c C a b = refl
 
-pub complete_refuses : (n : ℕ) (s : State) (o : Outcome) {r : Refusal} → ◌≡◌ {A = Result (Unit {0}) Refusal} (Err r) (unless_over s (complete n s (Ok tt))) → unless_over s (complete n s o) ≡ Err r
-complete_refuses n s o {r} e =
-    go (is_none s.verdict) (not (eqb s.count s.allowance)) s.conflict (all_below n (λ i. names (literals s.trail) (2 * i))) (list_all (list_any (true_on s.trail)) s.book) e
-  where
-    go : (v c : Bool) (C : Option (List ℕ)) (a b : Bool)
-        → ◌≡◌ {A = Result (Unit {0}) Refusal} (Err r) (demand v VerdictStands (demand c AllowanceUsed (without C ConflictStands (demand a ClaimOffTrail (demand b ClauseNotTrue (Ok tt))))))
-        → demand v VerdictStands (demand c AllowanceUsed (without C ConflictStands (demand a ClaimOffTrail (demand b ClauseNotTrue o)))) ≡ Err r
-    go true true None true true e = cc
-    go true true None true false e = cc
-    go true true None false b e = cc
-    go true true (Some C) a b e = cc
-    go true false C a b e = cc
-    go false c C a b e = cc
+-- the complement of a literal that may go on the trail has no claim on it either
+pub complement_off : {n : ℕ} {s : State} {l : ℕ} → Fresh n s l → names (asserted s.trail) (complement l) ≡ false
+complement_off {s = s} {l = l} f = asserted_names s.trail (complement l) ∙ complement_named (literals s.trail) l ∙ f.off
 
 -- ---- what a theory's law gives
 
@@ -221,8 +221,7 @@ module _ (M : Meaning) (law : Lawful M) where
       → theory_blames M l s.trail ≡ Some (take 256 (blamed (asserted s.trail) (complement l) core))
   implied_blames s l core r f e =
       let ls = asserted s.trail in
-      let p : Proper M.claims (ls ++ complement l ∷ []) = proper_push M.claims ls (complement l) (reached_trail M law s r) (omega (arith, f.below))
-      (asserted_names s.trail (complement l) ∙ complement_named (literals s.trail) l ∙ f.off) in
+      let p : Proper M.claims (ls ++ complement l ∷ []) = proper_push M.claims ls (complement l) (reached_trail M law s r) (omega (arith, f.below)) (complement_off f) in
       ap (blame (ls ++ complement l ∷ [])) e
       ∙ ap Some (sym (blamed_whole ls (complement l) core (core_few (ls ++ complement l ∷ []) core p e)
       ∙ blamed_last ls (complement l) core (subst (λ n. Rising n core) (length_push ls (complement l)) (law.core_rises (ls ++ complement l ∷ []) core p e))))

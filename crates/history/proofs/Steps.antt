@@ -16,21 +16,20 @@ use Rattle.rules.specs.declared.refusal.Refusal.TheVariants.{VerdictStands, Allo
 use Rattle.rules.specs.declared.step.Step.TheVariants as step
 use Rattle.rules.specs.declared.step.Verdict.TheVariants as verdict
 use Rattle.rules.specs.Clauses.{all_below, only}
-use Rattle.rules.specs.Rules.{State, Outcome, true_on, is_possible, is_learned, live_in, literals, asserted, above, up_to, hit, longer, ending, demand, fresh, unless_over, imply, resolve, jump, fit, says, leaves, after, judge}
+use Rattle.rules.specs.Rules.{State, Outcome, blame, clash, theory_blames, true_on, is_possible, is_learned, live_in, literals, asserted, above, up_to, hit, longer, ending, demand, fresh, unless_over, imply, resolve, jump, fit, says, leaves, after, judge}
 use Rattle.rules.specs.Histories.{Reached}
 use Rattle.rules.proofs.Accepted.{Leads, Fresh, on_demand, on_given, on_without, on_fresh}
 use Rattle.rules.proofs.Reached.{reached_after, reached_trail}
-use Rattle.rules.proofs.Trails.{asserted_names, asserted_length}
+use Rattle.rules.proofs.Trails.{asserted_names, asserted_length, latest_goes}
 use Rattle.trail.specs.Trails.{blamed}
 use Rattle.table.specs.declared.table.Table.{Table}
 use Rattle.table.specs.Tables.{state_of, claims_of, blames_of, stored}
 use Rattle.table.specs.Steps.{clashing, implied, if_allowed}
-use Rattle.table.proofs.Jumping.{latest_goes}
 use Rattle.history.specs.Links.{Explains, Linked}
 use Rattle.history.specs.Fits.{written}
 use Rattle.history.proofs.Asking.{possible_is}
 use Rattle.history.proofs.Blames.{explains_push, explains_end, explains_implied, cut_end, cut_asserted, resolve_same}
-use Rattle.history.proofs.Links.{counted_left, taken, on_open, SameTrail, neutral, resolve_stays, stays, Pushed, grows, fresh_passes, complete, complete_passes, clash_same, implied_blames}
+use Rattle.history.proofs.Links.{counted_left, taken, on_open, SameTrail, neutral, resolve_stays, stays, grows, fresh_then, complete, complete_then, clash_same, implied_blames}
 
 -- ---- a fit
 
@@ -47,9 +46,14 @@ written_possible M xs place e = go (ltb (length place) M.terms) (M.answer xs) e
 pub fit_same : (M : Meaning) (s : State) (k : ℕ) → ◌≡◌ {A = Result (Unit {0}) Refusal} (Ok tt) (unless_over s (complete M.claims s (Ok tt)))
     → is_possible (M.answer (asserted s.trail)) ≡ true → M.terms ≤ k → unless_over s (fit M s k) ≡ Ok (ending s verdict.Fit)
 fit_same M s k e p h =
-    complete_passes M.claims s (demand (is_possible (M.answer (asserted s.trail))) TrailImpossible (demand (leb M.terms k) ShortFitPlace (Ok (ending s verdict.Fit)))) e
+    complete_then M.claims s (demand (is_possible (M.answer (asserted s.trail))) TrailImpossible (demand (leb M.terms k) ShortFitPlace (Ok (ending s verdict.Fit)))) e
     ∙ ap (λ b. demand b TrailImpossible (demand (leb M.terms k) ShortFitPlace (Ok (ending s verdict.Fit)))) p
     ∙ ap (λ b. demand b ShortFitPlace (Ok (ending s verdict.Fit))) (le-leb M.terms k h)
+
+-- and where a check that needs no theory fails, it is refused
+pub incomplete : {M : Meaning} {xs : List ℕ} {t : Table} {sure : Bool} → Linked M xs t sure → (o : Outcome) {r : Refusal} → ◌≡◌ {A = Result (Unit {0}) Refusal} (Err r) (unless_over (state_of t) (complete (claims_of t) (state_of t) (Ok tt)))
+    → unless_over (state_of t) (complete M.claims (state_of t) o) ≡ Err r
+incomplete {M} {xs} {t} k o e = complete_then M.claims (state_of t) o (e ∙ ap (λ n. unless_over {A = Unit {0}} (state_of t) (complete n (state_of t) (Ok tt))) (sym k.claims))
 
 -- what is asked before a fit is accepted
 fit_asks : (M : Meaning) (s : State) (k : ℕ) → Leads (λ s'. (is_possible (M.answer (asserted s.trail)) ≡ true) × (M.terms ≤ k)) (unless_over s (fit M s k))
@@ -93,17 +97,6 @@ imply_same M s l p q =
     ap (λ a. fresh M.claims s l (demand a TrailImpossible (demand (not (is_possible (M.answer (asserted s.trail ++ complement l ∷ [])))) NotImplied (Ok (longer s l Theory))))) p
     ∙ ap (λ b. fresh M.claims s l (demand (not b) NotImplied (Ok (longer s l Theory)))) q
 
--- and where it is possible with it
-pub imply_refused : (M : Meaning) (s : State) (l : ℕ) → ◌≡◌ {A = Result (Unit {0}) Refusal} (Ok tt) (unless_over s (fresh M.claims s l (Ok tt)))
-    → is_possible (M.answer (asserted s.trail)) ≡ true → is_possible (M.answer (asserted s.trail ++ complement l ∷ [])) ≡ true → unless_over s (imply M s l) ≡ Err NotImplied
-imply_refused M s l e p q =
-    fresh_passes M.claims s l (demand (is_possible (M.answer (asserted s.trail))) TrailImpossible (demand (not (is_possible (M.answer (asserted s.trail ++ complement l ∷ [])))) NotImplied (Ok (longer s l Theory)))) e
-    ∙ ap (λ a. demand a TrailImpossible (demand (not (is_possible (M.answer (asserted s.trail ++ complement l ∷ [])))) NotImplied (Ok (longer s l Theory)))) p
-    ∙ ap (λ b. demand (not b) NotImplied (Ok (longer s l Theory))) q
-
-longer_pushes : (n : ℕ) (s : State) (l : ℕ) → Leads (Pushed n s l Theory) (unless_over s (fresh n s l (Ok (longer s l Theory))))
-longer_pushes n s l = on_open s (fresh n s l (Ok (longer s l Theory))) (on_fresh n s l (Ok (longer s l Theory)) (λ f. record { to = record { may = f; trail = refl } }))
-
 always : {X : Type 0} (o : Result (Unit {0}) Refusal) → Leads {A = Unit {0}} (λ u. X) o → Ok tt ≡ o → X
 always (Ok u) h e = h.to
 always (Err r) h e = cc
@@ -113,6 +106,11 @@ pub fresh_is : (n : ℕ) (s : State) (l : ℕ) → ◌≡◌ {A = Result (Unit {
 fresh_is n s l e = always (unless_over s (fresh n s l (Ok tt)))
     (on_demand (is_none s.verdict) VerdictStands _ (λ v. on_demand (not (eqb s.count s.allowance)) AllowanceUsed _ (λ c.
     on_fresh n s l (Ok tt) (λ f. record { to = f })))) e
+
+-- a theory that is asked changes nothing of what passed the checks
+pub free_still : {t t' : Table} (l : ℕ) → t' ≡ t → ◌≡◌ {A = Result (Unit {0}) Refusal} (Ok tt) (unless_over (state_of t) (fresh (claims_of t) (state_of t) l (Ok tt)))
+    → ◌≡◌ {A = Result (Unit {0}) Refusal} (Ok tt) (unless_over (state_of t') (fresh (claims_of t') (state_of t') l (Ok tt)))
+free_still l same e = e ∙ ap (λ t. unless_over {A = Unit {0}} (state_of t) (fresh (claims_of t) (state_of t) l (Ok tt))) (sym same)
 
 -- ---- a jump
 
@@ -128,29 +126,32 @@ jump_lands s k c =
 
 -- ---- what ties the table to the theory
 
-clashing_stays : (s : State) (core : List ℕ) → SameTrail s (leaves s (unless_over s (clashing s core)))
-clashing_stays s core = neutral s (clashing s core) (on_without s.conflict _ _ (λ q. record { to = refl }))
+clash_stays : (M : Meaning) (s : State) → SameTrail s (leaves s (unless_over s (clash M s)))
+clash_stays M s = neutral s (clash M s) (on_without s.conflict _ _ (λ q. on_given (blame (asserted s.trail) (M.answer (asserted s.trail))) _ _ (λ R e. record { to = refl })))
+
+module _ (M : Meaning) {xs : List ℕ} {t : Table} {sure : Bool} (k : Linked M xs t sure) where
+  -- what is stored is what the theory blames
+  pub resolve_judged : unless_over (state_of t) (resolve (stored (blames_of t)) (state_of t)) ≡ judge M (state_of t) step.Resolve
+  resolve_judged = ap (unless_over (state_of t)) (resolve_same M (blames_of t) (state_of t) k.explains)
+
+  -- and the theory's list is the trail
+  pub clash_judged : Lawful M → (core : List ℕ) → M.answer xs ≡ impossible core → unless_over (state_of t) (clashing (state_of t) core) ≡ judge M (state_of t) step.Clash
+  clash_judged law core e = ap (unless_over (state_of t)) (clash_same M law (state_of t) core k.reached (ap M.answer (sym k.same) ∙ e))
 
 module _ (M : Meaning) {xs : List ℕ} {t t' : Table} {sure : Bool} (k : Linked M xs t sure) (claims : claims_of t' ≡ claims_of t) where
   pub resolves : blames_of t' ≡ blames_of t → state_of t' ≡ leaves (state_of t) (unless_over (state_of t) (resolve (stored (blames_of t)) (state_of t))) → Linked M xs t' sure
-  resolves blames state =
-      stays M k claims step.Resolve blames (state ∙ ap (λ o. leaves (state_of t) (unless_over (state_of t) o)) (resolve_same M (blames_of t) (state_of t) k.explains))
-      (ap (λ z. z.trail) state ∙ resolve_stays (stored (blames_of t)) (state_of t))
+  resolves blames state = stays M k claims step.Resolve blames (state ∙ ap (leaves (state_of t)) (resolve_judged M k)) (resolve_stays (theory_blames M) (state_of t))
 
   pub clashes : Lawful M → (core : List ℕ) → M.answer xs ≡ impossible core → blames_of t' ≡ blames_of t → state_of t' ≡ leaves (state_of t) (unless_over (state_of t) (clashing (state_of t) core)) → Linked M xs t' sure
-  clashes law core e blames state =
-      stays M k claims step.Clash blames
-      (state ∙ ap (λ o. leaves (state_of t) (unless_over (state_of t) o)) (clash_same M law (state_of t) core k.reached (ap M.answer (sym k.same) ∙ e)))
-      (ap (λ z. z.trail) state ∙ clashing_stays (state_of t) core)
+  clashes law core e blames state = stays M k claims step.Clash blames (state ∙ ap (leaves (state_of t)) (clash_judged M k law core e)) (clash_stays M (state_of t))
 
   pub ends : (len : ℕ) → ◌≡◌ {A = Result (Unit {0}) Refusal} (Ok tt) (unless_over (state_of t) (complete (claims_of t) (state_of t) (Ok tt))) → is_possible (M.answer xs) ≡ true → M.terms ≤ len
       → blames_of t' ≡ blames_of t → state_of t' ≡ leaves (state_of t) (unless_over (state_of t) (Ok (ending (state_of t) verdict.Fit))) → Linked M xs t' sure
   ends len e p h blames state =
       let e' = e ∙ ap (λ n. unless_over {A = Unit {0}} (state_of t) (complete n (state_of t) (Ok tt))) (sym k.claims) in
       let z : state_of t' ≡ ending (state_of t) verdict.Fit = state ∙ ap (leaves (state_of t)) (open_passes (state_of t) (complete (claims_of t) (state_of t) (Ok tt)) (Ok (ending (state_of t) verdict.Fit)) e) in
-      stays M k claims (step.Fit len) blames
-      (z ∙ sym (ap (leaves (state_of t)) (fit_same M (state_of t) len e' (ap (λ ys. is_possible (M.answer ys)) (sym k.same) ∙ p) h)))
-      (ap (λ y. y.trail) z)
+      let fits : after M (state_of t) (step.Fit len) ≡ ending (state_of t) verdict.Fit = ap (leaves (state_of t)) (fit_same M (state_of t) len e' (ap (λ ys. is_possible (M.answer ys)) (sym k.same) ∙ p) h) in
+      stays M k claims (step.Fit len) blames (z ∙ sym fits) (ap (λ y. y.trail) fits)
 
   pub implies : Lawful M → (l : ℕ) (core : List ℕ) → Fresh M.claims (state_of t) l → is_possible (M.answer xs) ≡ true → M.answer (xs ++ complement l ∷ []) ≡ impossible core
       → length (blames_of t) ≡ claims_of t
@@ -161,10 +162,10 @@ module _ (M : Meaning) {xs : List ℕ} {t t' : Table} {sure : Bool} (k : Linked 
       let same = ap (λ ys. M.answer (ys ++ complement l ∷ [])) (sym k.same) ∙ q in
       let ok = e ∙ ap (λ n. unless_over {A = Unit {0}} (state_of t) (fresh n (state_of t) l (Ok tt))) (sym k.claims) in
       let z : state_of t' ≡ longer (state_of t) l Theory =
-      state ∙ ap (λ n. leaves (state_of t) (unless_over (state_of t) (fresh n (state_of t) l (Ok (longer (state_of t) l Theory))))) (sym k.claims) ∙ ap (leaves (state_of t)) (fresh_passes M.claims (state_of t) l (Ok (longer (state_of t) l Theory)) ok) in
+      state ∙ ap (λ n. leaves (state_of t) (unless_over (state_of t) (fresh n (state_of t) l (Ok (longer (state_of t) l Theory))))) (sym k.claims) ∙ ap (leaves (state_of t)) (fresh_then M.claims (state_of t) l (Ok (longer (state_of t) l Theory)) ok) in
       let after_is : after M (state_of t) (step.Imply l) ≡ longer (state_of t) l Theory =
       ap (λ o. leaves (state_of t) (unless_over (state_of t) o)) (imply_same M (state_of t) l (ap (λ ys. is_possible (M.answer ys)) (sym k.same) ∙ p) (ap is_possible same))
-      ∙ ap (leaves (state_of t)) (fresh_passes M.claims (state_of t) l (Ok (longer (state_of t) l Theory)) ok) in
+      ∙ ap (leaves (state_of t)) (fresh_then M.claims (state_of t) l (Ok (longer (state_of t) l Theory)) ok) in
       let kept : blames_of t' ≡ set (blames_of t) (length (state_of t).trail) (take 256 (blamed (asserted (state_of t).trail) (complement l) core)) =
       blames ∙ sym (ap (λ r. if_allowed {A = Unit {0}} r (set (blames_of t) (length (state_of t).trail) (take 256 (blamed (asserted (state_of t).trail) (complement l) core))) (blames_of t)) e) in
       let few : length (asserted (state_of t).trail ++ l ∷ []) ≤ M.claims =

@@ -24,6 +24,7 @@ within len (Forget c) = Forget c
 within len (Fit k) = Fit (min k len)
 within len NoFit = NoFit
 
+-- what a place holds after a step: only an accepted fit writes
 abbrev pub fit_over : Meaning → State → Step → List ℤ → List ℤ
 fit_over M s (Fit k) place = written M s (judge M s (Fit k)) place
 fit_over M s x place = place

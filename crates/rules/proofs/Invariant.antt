@@ -18,7 +18,7 @@ use Rattle.rules.specs.Rules.{State, opened, literals, asserted, true_on, false_
 use Rattle.rules.proofs.Lists.{has_push, list_all_has, list_any_has}
 use Rattle.rules.proofs.Clauses.{proper_below, set_has, set_only, set_proper}
 use Rattle.rules.proofs.Trails.{twice, below_complement, complement_named, asserted_has, Explained, SoundEntry, SoundTrail, on_below, on_once, proper_trail, proper_denied, blame_kept, blame_has}
-use Rattle.rules.proofs.Views.{latest_view, latest_before, latest_sound, cut_view, cut_sound, cut_has, cut_fresh, only_view, live_set_same, live_set_other, trail_moved, not_live}
+use Rattle.rules.proofs.Views.{latest_view, latest_before, latest_sound, cut_view, cut_sound, cut_has, cut_takes, only_view, live_set_same, live_set_other, trail_moved, not_live}
 use Rattle.rules.proofs.Accepted.{Fresh, Accepted, decides, propagates, implies, conflicts, clashes, resolves, jumps, forgets, fits, ends}
 
 -- every live clause is of the theory's claims, and kept by every fit that keeps the book
@@ -143,7 +143,7 @@ module _ (M : Meaning) (law : Lawful M) (s : State) (S : Sound M s) (room : s.co
       (record {
         proper = set_proper M.claims test below (λ m h g. on_once M (live_in s) s.trail S.trail (complement m) (f m h) (f (complement m) g));
         falsified = λ m i. f m (set_only test m i);
-        kept = λ v a b. let r = k v a b in (r.0, set_has test r.0 (omega (arith, law.few_claims, below r.0 r.1)) r.1, r.2);
+        kept = λ v a b. let r = k v a b in (r.0, set_has test r.0 (omega (arith, law.few_claims, below r.0 r.1)) ∙ r.1, r.2);
       }) tt
     where
       below : (m : ℕ) → test m ≡ true → m < 2 * M.claims
@@ -212,7 +212,7 @@ module _ (M : Meaning) (law : Lawful M) (s : State) (S : Sound M s) (room : s.co
         trail = (
           record {
             below = proper_below M.claims C st.proper (complement e.literal) one.hits;
-            fresh = complement_named (literals (up_to k s.trail)) e.literal ∙ cut_fresh k M (live_in s) cut S.trail e.literal one.on;
+            fresh = complement_named (literals (up_to k s.trail)) e.literal ∙ (cut_takes k M.claims cut (proper_trail M (live_in s) s.trail S.trail) e.literal one.on).off;
             ground = inr (record {
               by = C;
               is = same;

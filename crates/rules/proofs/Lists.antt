@@ -1,6 +1,7 @@
 -- What lists of numbers have, and which tests their numbers pass. Assumes nothing.
 use Rattle.std.proofs.Common.{◌≡◌, ℕ, zero, suc, ◌<◌, ◌≤◌, Bool, true, false, not, ◌||◌, eqb, ◌≢◌, ◌⊎◌, List, [], ◌∷◌, ◌++◌, length, slice_index, filter, inl, inr, refl, sym, ap, ◌∙◌, subst, ⊎_elim, arith}
 use Rattle.std.proofs.lemmas.Bool.{both_ways, cases_Bool, cases_eq, eqb-true, eq-eqb, ne_eqb, or_cases, or_left, or_right, or_parts, and_parts, and_from, and_cases, not_from_false, cond_both}
+use Rattle.std.proofs.Math.Bool.{or_comm, or_assoc}
 use Rattle.std.specs.List.{list_all, list_any}
 use Rattle.theory.specs.Literals.{has}
 use Rattle.rules.specs.Clauses.{all_below}
@@ -18,13 +19,9 @@ has_cases y ys x h = ⊎_elim (λ e. inl (eqb-true y x e)) (λ e. inr e) (or_cas
 
 pub has_push : (xs : List ℕ) (y x : ℕ) → has (xs ++ y ∷ []) x ≡ (eqb y x || has xs x)
 has_push [] y x = refl
-has_push (z ∷ zs) y x = ap (λ b. eqb z x || b) (has_push zs y x) ∙ swapped (eqb z x) (eqb y x) (has zs x)
-  where
-    swapped : (a b c : Bool) → (a || (b || c)) ≡ (b || (a || c))
-    swapped true true c = refl
-    swapped true false c = refl
-    swapped false true c = refl
-    swapped false false c = refl
+has_push (z ∷ zs) y x =
+    ap (λ b. eqb z x || b) (has_push zs y x) ∙ sym (or_assoc (eqb z x) (eqb y x) (has zs x)) ∙ ap (λ b. b || has zs x) (or_comm (eqb z x) (eqb y x))
+    ∙ or_assoc (eqb y x) (eqb z x) (has zs x)
 
 pub has_at : (xs : List ℕ) (p : ℕ) → p < length xs → has xs (slice_index xs p) ≡ true
 has_at [] p h = absurd (omega arith)

@@ -16,7 +16,7 @@ use Rattle.rules.specs.Rules.{State, literals, asserted, true_on, false_on, deci
 use Rattle.rules.proofs.Lists.{has_here, has_cases, has_list_all, list_any_not, all_below_at, all_below_not, missing}
 use Rattle.rules.proofs.Clauses.{proper_below}
 use Rattle.rules.proofs.Trails.{Explained, trail_few}
-use Rattle.rules.proofs.Views.{Latest, here, there, latest_view, latest_sound}
+use Rattle.rules.proofs.Views.{Latest, here, there, latest_view, latest_sound, above_none}
 use Rattle.rules.proofs.Invariant.{Sound, standing}
 
 -- ---- checks that are passed
@@ -56,10 +56,6 @@ latest_found C m (e ∷ t) i j =
     go false q (inr r) = r
 
 -- where the latest literal is decided, a jump to the level below it finds that literal alone
-above_none : (k : ℕ) (t : List Entry) → level t ≤ k → above k t ≡ []
-above_none k [] h = refl
-above_none k (e ∷ t) h = rw (le-leb (level (e ∷ t)) k h)
-
 alone : (C : List ℕ) {t r : List Entry} {e : Entry} → Latest C t e r → e.reason ≡ Decided → (filter (hit C) (above (level r) t) ≡ e ∷ []) × (level r < level t)
 alone C (here {e = e} {t = t} h) q =
     let d : decisions e.reason ≡ 1 = ap decisions q in

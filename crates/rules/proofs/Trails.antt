@@ -1,13 +1,14 @@
 -- Trails in order: literals of the theory's claims, no claim twice, and each literal with a reason follows from those
 -- before it. Assumes nothing.
-use Rattle.std.proofs.Common.{◌≡◌, ℕ, zero, suc, ◌*◌, ◌<◌, ◌≤◌, Bool, true, false, ◌||◌, eqb, ◌≢◌, ◌⊎◌, List, [], ◌∷◌, ◌++◌, map, length, slice_index, ℤ, Option, Some, inl, inr, refl, sym, ap, ap₂, ◌∙◌, subst, ⊎_elim, arith}
-use Rattle.std.proofs.lemmas.Bool.{both_ways, or_parts}
-use Rattle.std.proofs.lemmas.List.{length_push}
+use Rattle.std.proofs.Common.{◌≡◌, ℕ, zero, suc, ◌*◌, ◌<◌, ◌≤◌, true, false, not, ◌||◌, eqb, ◌≢◌, ◌⊎◌, List, [], ◌∷◌, ◌++◌, map, length, slice_index, ℤ, Option, Some, inl, inr, refl, sym, ap, ap₂, ◌∙◌, subst, ⊎_elim, arith}
+use Rattle.std.proofs.lemmas.Bool.{both_ways, and_parts, or_parts, not-true, eqb-false}
+use Rattle.std.proofs.lemmas.List.{get_or_push, length_push, take_at}
+use Rattle.std.proofs.Math.Bool.{or_comm}
 use Rattle.std.specs.List.{All}
-use Rattle.theory.specs.Literals.{complement, has, names, Proper}
+use Rattle.theory.specs.Literals.{complement, has, names, apart, Proper}
 use Rattle.theory.specs.Meaning.{Answer, possible, impossible, Meaning, Lawful, Fit}
 use Rattle.theory.proofs.Answers.{rising_below}
-use Rattle.theory.proofs.Claims.{proper_push, proper_few}
+use Rattle.theory.proofs.Claims.{names_later, proper_push, proper_take, proper_few}
 use Rattle.rules.specs.declared.entry.Reason.TheVariants.{Decided}
 use Rattle.rules.specs.declared.entry.Entry.{Entry}
 use Rattle.rules.specs.Clauses.{Keeps}
@@ -33,13 +34,17 @@ pub not_denied : (ls : List ℕ) (l : ℕ) → names ls l ≡ false → has ls (
 not_denied ls l h i = both_ways (has ls (complement l)) (or_parts (has ls l) (has ls (complement l)) h).1 i
 
 pub complement_named : (ls : List ℕ) (l : ℕ) → names ls (complement l) ≡ names ls l
-complement_named ls l = rw (twice l) (swapped (has ls (complement l)) (has ls l))
-  where
-    swapped : (a b : Bool) → (a || b) ≡ (b || a)
-    swapped true true = refl
-    swapped true false = refl
-    swapped false true = refl
-    swapped false false = refl
+complement_named ls l = rw (twice l) (or_comm (has ls (complement l)) (has ls l))
+
+-- the last literal of a list with no claim twice is not named before it
+apart_last : (ls : List ℕ) (l : ℕ) → apart (ls ++ l ∷ []) ≡ true → names ls l ≡ false
+apart_last [] l h = refl
+apart_last (m ∷ ms) l h =
+    let b = and_parts (not (names (ms ++ l ∷ []) m)) (apart (ms ++ l ∷ [])) h in
+    let p = or_parts (has (ms ++ l ∷ []) m) (has (ms ++ l ∷ []) (complement m)) (not-true (names (ms ++ l ∷ []) m) b.0) in
+    let q = eqb-false l m ((or_parts (eqb l m) (has ms m) (sym (has_push ms l m) ∙ p.0)).0) in
+    let r = eqb-false l (complement m) ((or_parts (eqb l (complement m)) (has ms (complement m)) (sym (has_push ms l (complement m)) ∙ p.1)).0) in
+    names_later m ms l (λ e. let z : l ≡ complement m = omega (arith, q) in r z) ∙ apart_last ms l b.1
 
 -- ---- a trail's literals, from either end
 
@@ -53,6 +58,28 @@ asserted_names t l = ap₂ (λ a b. a || b) (asserted_has t l) (asserted_has t (
 pub asserted_length : (t : List Entry) → length (asserted t) ≡ length t
 asserted_length [] = refl
 asserted_length (e ∷ t) = omega (arith, length_push (asserted t) e.literal, asserted_length t)
+
+-- ---- a trail's latest entry
+
+-- a trail takes a literal of the claims that it does not name
+pub record Takes (n : ℕ) (t : List Entry) (l : ℕ) : Type 0 where
+  pub below : l < 2 * n
+  pub off : names (literals t) l ≡ false
+
+-- what stands before the latest entry has taken its literal
+pub latest_goes : (n : ℕ) (e : Entry) (t : List Entry) → Proper n (asserted (e ∷ t)) → Takes n t e.literal
+latest_goes n e t p = record {
+  below = subst (λ l. l < 2 * n) (get_or_push (asserted t) e.literal 0 (length (asserted t)) refl)
+      (p.below (length (asserted t)) 0 (omega (arith, length_push (asserted t) e.literal)));
+  off = sym (asserted_names t e.literal) ∙ apart_last (asserted t) e.literal p.apart_claims;
+}
+
+pub proper_before : (n : ℕ) (e : Entry) (t : List Entry) → Proper n (asserted (e ∷ t)) → Proper n (asserted t)
+proper_before n e t p =
+    subst (Proper n) (take_at (asserted t) (e.literal ∷ []) (length (asserted t)) refl) (proper_take n (length (asserted t)) (asserted t ++ e.literal ∷ []) p)
+
+pub proper_length : (n : ℕ) (t : List Entry) → Proper n (asserted t) → length t ≤ n
+proper_length n t p = omega (arith, asserted_length t, proper_few n (asserted t) p)
 
 -- ---- trails in order
 
@@ -101,7 +128,7 @@ module _ (M : Meaning) (clause_at : ℕ → Option (List ℕ)) where
       (asserted_names t (complement l) ∙ complement_named (literals t) l ∙ f)
 
   pub trail_few : (t : List Entry) → SoundTrail M clause_at t → length t ≤ M.claims
-  trail_few t k = omega (arith, asserted_length t, proper_few M.claims (asserted t) (proper_trail t k))
+  trail_few t k = proper_length M.claims t (proper_trail t k)
 
 -- ---- what the theory blames
 

@@ -1,17 +1,17 @@
 -- What the functions of the rules find on a trail, as relations: the latest literal of a conflict, and a cut at a level.
 -- Assumes nothing.
 use Rattle.std.proofs.Common.{◌≡◌, ℕ, ◌-◌, ◌<◌, ◌≤◌, Bool, true, false, ◌||◌, cond, ltb, leb, ◌≢◌, ◌⊎◌, List, [], ◌∷◌, length, set, filter, slice_get, get_or, Option, Some, None, inl, inr, refl, sym, ◌∙◌, subst, ⊎_elim, arith}
-use Rattle.std.proofs.lemmas.Bool.{both_ways, cases_eq, or_parts, or_from, false_from_ne_true, eqb-false, ne_eqb, leb-true, leb-false, ltb-false, le-ltb}
+use Rattle.std.proofs.lemmas.Bool.{both_ways, cases_eq, or_parts, or_from, false_from_ne_true, eqb-false, ne_eqb, leb-true, leb-false, ltb-false, le-ltb, le-leb}
 use Rattle.std.proofs.lemmas.List.{get_or-set_same, get_or-set_other}
-use Rattle.theory.specs.Literals.{complement, has, names}
+use Rattle.theory.specs.Literals.{complement, has, Proper}
 use Rattle.theory.specs.Meaning.{Meaning}
 use Rattle.rules.specs.declared.entry.Reason.{Reason}
 use Rattle.rules.specs.declared.entry.Reason.TheVariants.{Decided, Clause, Theory}
 use Rattle.rules.specs.declared.entry.Entry.{Entry}
 use Rattle.rules.specs.Clauses.{only}
-use Rattle.rules.specs.Rules.{literals, level, up_to, above, hit, latest, is_clause, is_reason, live, theory_blames, explained}
+use Rattle.rules.specs.Rules.{literals, asserted, level, up_to, above, hit, latest, is_clause, is_reason, live, theory_blames, explained}
 use Rattle.rules.proofs.Lists.{has_here, has_later, has_cases}
-use Rattle.rules.proofs.Trails.{not_named, not_denied, Explained, SoundTrail}
+use Rattle.rules.proofs.Trails.{not_named, not_denied, Takes, latest_goes, proper_before, Explained, SoundTrail}
 
 -- ---- the latest literal of a conflict
 
@@ -67,21 +67,27 @@ module _ (k : ℕ) where
       ⊎_elim (λ q. inl (has_here e.literal (literals u) x q))
       (λ j. ⊎_elim (λ q. inl (has_later e.literal (literals u) x q)) (λ q. inr q) (cut_has v x j)) (has_cases e.literal (literals t) x i)
 
-  pub cut_kept : {t u r : List Entry} → Cut k t u r → (x : ℕ) → has (literals r) x ≡ true → has (literals t) x ≡ true
+  cut_kept : {t u r : List Entry} → Cut k t u r → (x : ℕ) → has (literals r) x ≡ true → has (literals t) x ≡ true
   cut_kept (stop h) x i = i
   cut_kept (more {e = e} {t = t} h v) x i = has_later e.literal (literals t) x (cut_kept v x i)
 
-  -- what is cut off is not named by what is left
-  pub cut_fresh : (M : Meaning) (clause_at : ℕ → Option (List ℕ)) {t u r : List Entry} → Cut k t u r → SoundTrail M clause_at t
-      → (x : ℕ) → has (literals u) x ≡ true → names (literals r) x ≡ false
-  cut_fresh M clause_at (stop h) s x i = absurd (both_ways false refl i)
-  cut_fresh M clause_at (more {e = e} {t = t} {u = u} {r = r} h v) s x i =
+  -- what is left takes each literal that is cut off
+  pub cut_takes : (n : ℕ) {t u r : List Entry} → Cut k t u r → Proper n (asserted t) → (x : ℕ) → has (literals u) x ≡ true → Takes n r x
+  cut_takes n (stop h) p x i = absurd (both_ways false refl i)
+  cut_takes n (more {e = e} {t = t} {u = u} {r = r} h v) p x i =
       ⊎_elim
-      (λ (q : e.literal ≡ x). subst (λ z. names (literals r) z ≡ false) q (or_from (has (literals r) e.literal) (has (literals r) (complement e.literal))
-      (false_from_ne_true (has (literals r) e.literal) (λ j. not_named (literals t) e.literal s.0.fresh (cut_kept v e.literal j)))
-      (false_from_ne_true (has (literals r) (complement e.literal)) (λ j. not_denied (literals t) e.literal s.0.fresh (cut_kept v (complement e.literal) j)))))
-      (λ j. cut_fresh M clause_at v s.1 x j)
+      (λ (q : e.literal ≡ x). let m = latest_goes n e t p in subst (Takes n r) q (record {
+        below = m.below;
+        off = or_from (has (literals r) e.literal) (has (literals r) (complement e.literal))
+            (false_from_ne_true (has (literals r) e.literal) (λ j. not_named (literals t) e.literal m.off (cut_kept v e.literal j)))
+            (false_from_ne_true (has (literals r) (complement e.literal)) (λ j. not_denied (literals t) e.literal m.off (cut_kept v (complement e.literal) j)));
+      }))
+      (λ j. cut_takes n v (proper_before n e t p) x j)
       (has_cases e.literal (literals u) x i)
+
+pub above_none : (k : ℕ) (t : List Entry) → level t ≤ k → above k t ≡ []
+above_none k [] h = refl
+above_none k (e ∷ t) h = rw (le-leb (level (e ∷ t)) k h)
 
 -- ---- the one entry that a test keeps
 

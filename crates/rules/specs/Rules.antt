@@ -73,7 +73,7 @@ abbrev pub above : ℕ → List Entry → List Entry
 above k [] = []
 above k (e ∷ t) = cond (nat_le (level (e ∷ t)) k) [] (e ∷ above k t)
 
--- the entry's complement is in the conflict
+-- the complement of the entry's literal is in the conflict
 abbrev pub hit : List ℕ → Entry → Bool
 hit C e = has C (complement e.literal)
 
@@ -208,6 +208,8 @@ clash M s =
     without s.conflict ConflictStands (given (blame (asserted s.trail) (M.answer (asserted s.trail))) TrailPossible (λ R.
     Ok (conflicting s R)))
 
+-- in every state that a history comes to, a conflict is false on the trail, and an entry that was not decided has its clause:
+-- so only an empty conflict has no latest literal, and only a decided entry is unexplained
 abbrev pub resolve : (ℕ → List Entry → Option (List ℕ)) → State → Outcome
 resolve blames s =
     given s.conflict NoConflict (λ C. given (latest C s.trail) ConflictEmpty (λ at.

@@ -1,2 +1,1 @@
 pub mod Jumping
-pub mod Lists

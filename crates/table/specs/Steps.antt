@@ -14,6 +14,7 @@ counted s = next s s.learned s.trail s.conflict s.verdict
 abbrev pub clashing : State → List ℕ → Outcome
 clashing s core = without s.conflict ConflictStands (Ok (conflicting s (take 256 (blamed (asserted s.trail) 0 core))))
 
+-- one thing where a check was passed, another where it was not
 abbrev pub if_allowed : {A B : Type 0} → Result A Refusal → B → B → B
 if_allowed (Ok a) x y = x
 if_allowed (Err r) x y = y

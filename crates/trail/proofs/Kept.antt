@@ -1,11 +1,11 @@
 -- A trail's entries stand with the oldest first, and its definitions have the latest first: what one entry more or less
 -- does to either. Assumes nothing.
 use Rattle.std.proofs.Common.{◌≡◌, ℕ, ◌+◌, ◌*◌, ◌<◌, ◌≤◌, Bool, true, false, not, cond, ◌||◌, eqb, ltb, ◌≢◌, List, [], ◌∷◌, ◌++◌, length, vec_items, get_or, map, set, take, drop, replicate, reverse, Option, Some, None, Result, Ok, sym, refl, ap, ◌∙◌, subst, ⊎_elim, arith}
-use Rattle.std.proofs.lemmas.Bool.{cases_Bool, both_ways, le-leb, lt-leb, cases_eq, cases_lt, not-true, ltb-true, eq-eqb, ne_eqb, and_parts, or_parts, or_from, eqb-false}
-use Rattle.std.proofs.lemmas.List.{reverse-append, length-reverse, length-map, length-take-le, length_push, take_at, take_all, take-append-le, get_or_append_left, get_or-take, get_or_push, get_or-set_same, get_or-set_other, get_or-replicate, get_or_past, length-replicate}
+use Rattle.std.proofs.lemmas.Bool.{cases_Bool, both_ways, le-leb, lt-leb, cases_eq, cases_lt, ltb-true, eq-eqb, ne_eqb, or_parts, eqb-false}
+use Rattle.std.proofs.lemmas.List.{reverse-append, length-reverse, length-map, length-take-le, length_push, take_all, take-append-le, get_or_append_left, get_or-take, get_or_push, get_or-set_same, get_or-set_other, get_or-replicate, get_or_past, length-replicate}
 use Rattle.std.specs.Option.{is_some, option_flatten, unwrap_or}
-use Rattle.theory.specs.Literals.{claim, complement, has, names, apart, Proper}
-use Rattle.theory.proofs.Claims.{names_later, proper_push, proper_take, proper_few}
+use Rattle.theory.specs.Literals.{claim, has, names, Proper}
+use Rattle.theory.proofs.Claims.{names_later, proper_push, proper_few}
 use Rattle.rules.specs.declared.entry.Reason.{Reason}
 use Rattle.rules.specs.declared.entry.Reason.TheVariants.{Decided, Clause, Theory}
 use Rattle.rules.specs.declared.entry.Entry.{Entry}
@@ -13,8 +13,8 @@ use Rattle.rules.specs.declared.refusal.Refusal.{Refusal}
 use Rattle.rules.specs.declared.refusal.Refusal.TheVariants.{NoSuchLiteral, ClaimOnTrail}
 use Rattle.rules.specs.Clauses.{all_below}
 use Rattle.rules.specs.Rules.{literals, asserted, decisions, level, up_to, demand}
-use Rattle.rules.proofs.Lists.{has_push, all_below_at, all_below_not, missing}
-use Rattle.rules.proofs.Trails.{asserted_has, asserted_names, asserted_length}
+use Rattle.rules.proofs.Lists.{all_below_at, all_below_not, missing}
+use Rattle.rules.proofs.Trails.{asserted_names, asserted_length, Takes, latest_goes, proper_before, proper_length}
 use Rattle.trail.specs.declared.trail.Trail.{Trail}
 use Rattle.trail.specs.Trails.{claims_of, trail_of, push_says}
 use Rattle.trail.specs.Kept.{place_on, Leveled, Placed}
@@ -24,46 +24,15 @@ reverse_push es e = reverse-append es (e ∷ [])
 
 -- ---- literals of the claims, no claim twice
 
--- the last literal of such a list is not among those before it
-apart_last : (ls : List ℕ) (l : ℕ) → apart (ls ++ l ∷ []) ≡ true → has ls l ≡ false
-apart_last [] l h = refl
-apart_last (m ∷ ms) l h =
-    let b = and_parts (not (names (ms ++ l ∷ []) m)) (apart (ms ++ l ∷ [])) h in
-    let p = or_parts (has (ms ++ l ∷ []) m) (has (ms ++ l ∷ []) (complement m)) (not-true (names (ms ++ l ∷ []) m) b.0) in
-    let q = or_parts (eqb l m) (has ms m) (sym (has_push ms l m) ∙ p.0) in
-    or_from (eqb m l) (has ms l) (ne_eqb m l (λ e. eqb-false l m q.0 (sym e))) (apart_last ms l b.1)
-
--- a trail with an entry taken off it
-pub record Shorter (n : ℕ) (es : List Entry) (e : Entry) : Type 0 where
-  pub proper : Proper n (asserted (reverse es))
-  pub below : e.literal < 2 * n
-  pub off : has (literals (reverse es)) e.literal ≡ false
-
-pub proper_pop : (n : ℕ) (es : List Entry) (e : Entry) → Proper n (asserted (reverse (es ++ e ∷ []))) → Shorter n es e
-proper_pop n es e h = record {
-  proper = subst (Proper n) (take_at before (e.literal ∷ []) (length before) refl) (proper_take n (length before) longer all);
-  below = subst (λ l. l < 2 * n) (get_or_push before e.literal 0 (length before) refl)
-      (all.below (length before) 0 (omega (arith, length_push before e.literal)));
-  off = sym (asserted_has (reverse es) e.literal) ∙ apart_last before e.literal all.apart_claims;
-}
-  where
-    before : List ℕ
-    before = asserted (reverse es)
-
-    longer : List ℕ
-    longer = before ++ e.literal ∷ []
-
-    all : Proper n longer
-    all = subst (λ t. Proper n (asserted t)) (reverse_push es e) h
+-- a trail with the latest entry last
+pub proper_turned : (n : ℕ) (es : List Entry) (e : Entry) → Proper n (asserted (reverse (es ++ e ∷ []))) → Proper n (asserted (e ∷ reverse es))
+proper_turned n es e p = subst (λ t. Proper n (asserted t)) (reverse_push es e) p
 
 pub proper_more : (n : ℕ) (es : List Entry) (e : Entry) → Proper n (asserted (reverse es)) → e.literal < 2 * n → names (literals (reverse es)) e.literal ≡ false
     → Proper n (asserted (reverse (es ++ e ∷ [])))
 proper_more n es e p low new =
     subst (λ t. Proper n (asserted t)) (sym (reverse_push es e))
     (proper_push n (asserted (reverse es)) e.literal p low (asserted_names (reverse es) e.literal ∙ new))
-
-pub proper_length : (n : ℕ) (t : List Entry) → Proper n (asserted t) → length t ≤ n
-proper_length n t p = omega (arith, asserted_length t, proper_few n (asserted t) p)
 
 -- ---- levels
 
@@ -149,17 +118,12 @@ placed_pop places es e h off old l =
 
 -- ---- taking a literal
 
--- what a trail takes
-pub record Takes (n : ℕ) (t : List Entry) (l : ℕ) : Type 0 where
-  pub below : l < 2 * n
-  pub new : names (literals t) l ≡ false
-
 pub takes : (n : ℕ) (t : List Entry) (l : ℕ) → Ok tt ≡ push_says n t l → Takes n t l
 takes n t l h = go (ltb l (2 * n)) (names (literals t) l) refl refl h
   where
     go : (a b : Bool) → ltb l (2 * n) ≡ a → names (literals t) l ≡ b
         → ◌≡◌ {A = Result (Unit {0}) Refusal} (Ok tt) (demand a NoSuchLiteral (demand (not b) ClaimOnTrail (Ok tt))) → Takes n t l
-    go true false p q h = record { below = ltb-true l (2 * n) p; new = q }
+    go true false p q h = record { below = ltb-true l (2 * n) p; off = q }
     go true true p q h = cc
     go false b p q h = cc
 
@@ -193,7 +157,7 @@ pub kept_push : (n : ℕ) (es : List Entry) (levels : List ℕ) (places : List (
     → Kept n (es ++ e ∷ []) (levels ++ k ∷ []) (set places e.literal (Some (length es)))
 kept_push n es levels places e k old t room here = record {
   level_each = omega (arith, length_push es e, length_push levels k, old.level_each);
-  proper = proper_more n es e old.proper t.below t.new;
+  proper = proper_more n es e old.proper t.below t.off;
   leveled = leveled_push levels es e k old.level_each here old.leveled;
   placed = placed_push places es e (omega (arith, t.below)) old.placed;
 }
@@ -202,13 +166,16 @@ pub kept_pop : (n : ℕ) (es : List Entry) (levels : List ℕ) (places : List (O
     → Kept n es (take (length es) levels) (set places e.literal None)
 kept_pop n es levels places e old room = record {
   level_each = length-take-le (length es) levels (omega (arith, old.level_each, length_push es e));
-  proper = s.proper;
+  proper = proper_before n e (reverse es) all;
   leveled = leveled_pop levels es e old.leveled;
-  placed = placed_pop places es e (omega (arith, s.below)) s.off old.placed;
+  placed = placed_pop places es e (omega (arith, took.below)) (or_parts _ _ took.off).0 old.placed;
 }
   where
-    s : Shorter n es e
-    s = proper_pop n es e old.proper
+    all : Proper n (asserted (e ∷ reverse es))
+    all = proper_turned n es e old.proper
+
+    took : Takes n (reverse es) e.literal
+    took = latest_goes n e (reverse es) all
 
 -- ---- a cut, one entry at a time
 
@@ -259,11 +226,5 @@ full n t p =
 
 -- ---- what stands of every trail
 
-pub few_claims : (t : Trail) → claims_of t ≤ 128
-few_claims t = t.few
-
 pub proper_trail : (t : Trail) → Proper (claims_of t) (asserted (trail_of t))
 proper_trail t = t.proper
-
-pub few_entries : (t : Trail) → length (trail_of t) ≤ claims_of t
-few_entries t = proper_length (claims_of t) (trail_of t) (proper_trail t)

@@ -1,13 +1,14 @@
 -- Looking back from a trail's end, entry by entry: the latest that a conflict hits, and the one above a level. And the
 -- literals that a core names. Assumes nothing.
 use Rattle.std.proofs.Common.{◌≡◌, ℕ, ◌+◌, ◌-◌, ◌<◌, ◌≤◌, true, false, cond, List, [], ◌∷◌, ◌++◌, length, get_or, slice_index, map, take, filter, reverse, Option, Some, None, sym, refl, ap, ◌∙◌, ⊎_elim, arith}
-use Rattle.std.proofs.lemmas.Bool.{cases_lt, lt-leb, le-leb}
+use Rattle.std.proofs.lemmas.Bool.{cases_lt, lt-leb}
 use Rattle.std.proofs.lemmas.List.{reverse-append, length-reverse, length-take-le, take_all, take_more, take-take, take-append-le, map_more, get_or-map, get_or_past, length-map}
 use Rattle.std.specs.Option.{is_some, option_map}
 use Rattle.theory.specs.Literals.{complement}
 use Rattle.rules.specs.declared.entry.Entry.{Entry}
 use Rattle.rules.specs.Clauses.{only}
 use Rattle.rules.specs.Rules.{asserted, level, above, hit, latest}
+use Rattle.rules.proofs.Views.{above_none}
 use Rattle.trail.specs.Kept.{Leveled}
 use Rattle.trail.specs.Trails.{latest_at, blamed}
 use Rattle.trail.proofs.Kept.{reverse_push}
@@ -63,10 +64,6 @@ or_sole (Some l) (e ∷ es) = None
 abbrev pub sole_left : ℕ → List ℕ → Option ℕ → List Entry → Option ℕ
 sole_left k C sole t = or_sole sole (filter (hit C) (above k t))
 
-above_stop : (k : ℕ) (t : List Entry) → level t ≤ k → above k t ≡ []
-above_stop k [] h = refl
-above_stop k (e ∷ t) h = rw (le-leb (level (e ∷ t)) k h)
-
 above_more : (k : ℕ) (e : Entry) (t : List Entry) → k < level (e ∷ t) → above k (e ∷ t) ≡ e ∷ above k t
 above_more k e t h = rw (lt-leb (level (e ∷ t)) k h)
 
@@ -77,7 +74,7 @@ level_before levels es p k a b = k (p - 1) (omega arith) ∙ ap (λ (q : ℕ). l
     one = omega arith
 
 pub sole_end : (k : ℕ) (C : List ℕ) (sole : Option ℕ) (t : List Entry) → level t ≤ k → sole_left k C sole t ≡ sole
-sole_end k C sole t h = ap (λ es. or_sole sole (filter (hit C) es)) (above_stop k t h) ∙ none sole
+sole_end k C sole t h = ap (λ es. or_sole sole (filter (hit C) es)) (above_none k t h) ∙ none sole
   where
     none : (o : Option ℕ) → or_sole o [] ≡ o
     none None = refl
@@ -122,7 +119,7 @@ asserted_push : (t : List Entry) (e : Entry) → asserted (t ++ e ∷ []) ≡ e.
 asserted_push [] e = refl
 asserted_push (d ∷ t) e = ap (λ ls. ls ++ d.literal ∷ []) (asserted_push t e)
 
-pub asserted_reverse : (es : List Entry) → asserted (reverse es) ≡ map (λ e. e.literal) es
+asserted_reverse : (es : List Entry) → asserted (reverse es) ≡ map (λ e. e.literal) es
 asserted_reverse [] = refl
 asserted_reverse (e ∷ es) =
     ap asserted (reverse-append (e ∷ []) es) ∙ asserted_push (reverse es) e ∙ ap (λ ls. e.literal ∷ ls) (asserted_reverse es)

@@ -1,5 +1,5 @@
 //! Opening a history, and what is asked of one.
-ghost use Rattle.std.specs.Prelude.{◌≡◌, Ok, Err, IfOk, IfErr, MatchResult, option_map, reverse};
+ghost use Rattle.std.specs.Prelude.{◌≡◌, Ok, Err, IfOk, IfErr, MatchResult, length, option_map, reverse};
 ghost use Rattle.rules.specs.Clauses.{Book};
 ghost use Rattle.rules.specs.Rules.{opened};
 ghost use Rattle.clauses.specs.Sets.{members};
@@ -67,7 +67,8 @@ impl<T: Theory> History<T> {
 
     /// The level of each entry.
     pub fn levels(&self) -> &[u32]
-        ensures { Leveled result.now (reverse (state_of self.now.table).trail) }
+        ensures long { length result.now ≡ length (state_of self.now.table).trail }
+        ensures levels { Leveled result.now (reverse (state_of self.now.table).trail) }
     {
         self.table.levels()
     }

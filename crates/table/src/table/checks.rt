@@ -1,5 +1,5 @@
 //! What a table is asked.
-ghost use Rattle.std.specs.Prelude.{◌≡◌, ◌*◌, ◌&&◌, Ok, map, reverse, is_none, option_copied, option_map};
+ghost use Rattle.std.specs.Prelude.{◌≡◌, ◌*◌, ◌&&◌, Ok, map, length, reverse, is_none, option_copied, option_map};
 ghost use Rattle.std.specs.List.{list_all, list_any};
 ghost use Rattle.theory.specs.Literals.{has, names};
 ghost use Rattle.rules.specs.Clauses.{all_below};
@@ -72,7 +72,8 @@ impl Table {
 
     /// The level of each entry.
     pub fn levels(&self) -> &[u32]
-        ensures { Leveled result.now (reverse (state_of self.now).trail) }
+        ensures long { length result.now ≡ length (state_of self.now).trail }
+        ensures levels { Leveled result.now (reverse (state_of self.now).trail) }
     {
         self.trail.levels()
     }
@@ -141,14 +142,8 @@ impl Table {
     fn book_true(&self) -> bool
         ensures { result ≡ list_all (list_any (true_on (state_of self.now).trail)) (state_of self.now).book }
     {
-        for c in 0..self.book.len() {
-            let Some(clause) = self.book.clause(c) else {
-                return false;
-            };
-            if !self.trail.some_true(clause) {
-                return false;
-            }
-        }
-        true
+        self.book
+            .clauses()
+            .all(|clause| self.trail.some_true(clause))
     }
 }

@@ -1,5 +1,5 @@
 //! Opening a table.
-ghost use Rattle.std.specs.Prelude.{◌≡◌, ◌≤◌, IfOk};
+ghost use Rattle.std.specs.Prelude.{◌≡◌, IfOk, min};
 ghost use Rattle.rules.specs.Rules.{opened};
 ghost use Rattle.clauses.specs.Rows.{Reads};
 ghost use Rattle.table.specs.Tables.{state_of, claims_of};
@@ -15,7 +15,7 @@ impl Table {
     pub fn open(heap: Global, row: &[u16], claims: usize, allowance: u32) -> Result<Table, Unopened>
         ensures reads { Reads (λ t. (state_of t).book) claims row.now result }
         ensures opened { IfOk result (λ t. state_of t ≡ opened (state_of t).book allowance) }
-        ensures claims { IfOk result (λ t. claims ≤ 128 → claims_of t ≡ claims) }
+        ensures claims { IfOk result (λ t. claims_of t ≡ min claims 128) }
     {
         let book = Book::read(heap, row, claims)?;
         let learned = Learned::new(heap)?;

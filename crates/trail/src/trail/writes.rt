@@ -1,5 +1,5 @@
 //! How a trail changes.
-ghost use Rattle.std.specs.Prelude.{◌≡◌, ◌≤◌, [], IfOk, drop};
+ghost use Rattle.std.specs.Prelude.{◌≡◌, [], IfOk, min, drop};
 ghost use Rattle.rules.specs.Rules.{up_to, level};
 ghost use Rattle.trail.specs.Trails.{claims_of, trail_of, push_says, push_leaves};
 
@@ -11,7 +11,7 @@ use theory::Literal;
 impl Trail {
     /// A trail with nothing on it. Of the claims it takes no more than a theory has.
     pub fn new(heap: Global, claims: usize) -> Result<Trail, AllocError>
-        ensures claims { IfOk result (λ t. claims ≤ 128 → claims_of t ≡ claims) }
+        ensures claims { IfOk result (λ t. claims_of t ≡ min claims 128) }
         ensures none { IfOk result (λ t. trail_of t ≡ []) }
     {
         let claims = claims.min(128);

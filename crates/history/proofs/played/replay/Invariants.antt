@@ -8,5 +8,5 @@ abbrev pub invariant-loop-step : goal.invariant-loop-step
 invariant-loop-step g l =
     (g.T.Theory.shape_of l.history.theory ≡ g.T.Theory.shape_of l.fn.theory)
     × (length l.steps ≤ vec_capacity l.answers)
-    × Playing (g.T.Theory.means (g.T.Theory.shape_of l.fn.theory)) (state_of l.initial.history.table) (judged_as (length l.fn.place) l.steps) l.fn.place
+    × Playing (g.T.Theory.means (g.T.Theory.shape_of l.fn.theory)) (state_of l.initial.history.table).book l.fn.allowance (judged_as (length l.fn.place) l.steps) l.fn.place
     (state_of l.history.table) (vec_items l.answers) l.place l.step-index

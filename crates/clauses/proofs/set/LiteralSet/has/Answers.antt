@@ -1,5 +1,5 @@
 use Rattle.std.proofs.Common.{◌<◌, ◌≤◌, ℕ, false, get_or, sym, ◌∙◌, ap, arith}
-use Rattle.clauses.proofs.Sets.{set_has, set_lacks}
+use Rattle.rules.proofs.Clauses.{set_has, set_lacks}
 use Rattle.clauses.proofs.set.LiteralSet.has.Goals as goal
 
 pub returns-in-Some : goal.returns-in-Some

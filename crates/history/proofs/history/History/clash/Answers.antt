@@ -1,9 +1,9 @@
-use Rattle.std.proofs.Common.{◌∙◌, sym, ap}
-use Rattle.rules.specs.Rules.{unless_over, leaves}
+use Rattle.std.proofs.Common.{◌∙◌, ap}
+use Rattle.rules.specs.Rules.{leaves}
 use Rattle.table.specs.Tables.{state_of}
 use Rattle.history.proofs.Asking.{none_found, some_found}
-use Rattle.history.proofs.Links.{moved, finds, clash_same}
-use Rattle.history.proofs.Steps.{clashes}
+use Rattle.history.proofs.Links.{moved, finds}
+use Rattle.history.proofs.Steps.{clashes, clash_judged}
 use Rattle.history.proofs.history.History.clash.Goals as goal
 
 pub invariant_of-self-in_default : goal.invariant_of-self-in_default
@@ -28,6 +28,6 @@ pub returns-clause-state : goal.returns-clause-state
 returns-clause-state g c =
     let M = g.T.Theory.means (g.T.Theory.shape_of c.args.self.now.theory) in
     let xs = g.T.Theory.asserted c.args.self.now.theory in
-    let s = state_of c.args.self.now.table in
     c.clash.ensures.state
-    ∙ ap (λ o. leaves s (unless_over s o)) (clash_same M (g.met.T.Theory.lawful c.args.self.now.theory) s _ c.args.self.now.linked.reached (ap M.answer (sym c.args.self.now.linked.same) ∙ some_found M xs c.ask.new.place c.ask.result c.in-Some.len c.ask.ensures.asked c.in-Some.is))
+    ∙ ap (leaves (state_of c.args.self.now.table)) (clash_judged M c.args.self.now.linked (g.met.T.Theory.lawful c.args.self.now.theory) _
+    (some_found M xs c.ask.new.place c.ask.result c.in-Some.len c.ask.ensures.asked c.in-Some.is))

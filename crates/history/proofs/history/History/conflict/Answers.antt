@@ -1,4 +1,3 @@
-use Rattle.std.proofs.Common.{◌∙◌, ap}
 use Rattle.rules.specs.declared.step.Step.TheVariants.{Conflict}
 use Rattle.table.specs.Tables.{state_of}
 use Rattle.history.proofs.Links.{stays, conflict_stays}
@@ -6,6 +5,5 @@ use Rattle.history.proofs.history.History.conflict.Goals as goal
 
 pub invariant_of-self : goal.invariant_of-self
 invariant_of-self g c = record {
-  linked = stays _ c.args.self.now.linked c.conflict.ensures.claims (Conflict c.args.c) c.conflict.ensures.blames c.conflict.ensures.state
-      (ap (λ s. s.trail) c.conflict.ensures.state ∙ conflict_stays (state_of c.args.self.now.table) c.args.c);
+  linked = stays _ c.args.self.now.linked c.conflict.ensures.claims (Conflict c.args.c) c.conflict.ensures.blames c.conflict.ensures.state (conflict_stays (state_of c.args.self.now.table) c.args.c);
 }

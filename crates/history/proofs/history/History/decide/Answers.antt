@@ -3,13 +3,12 @@ use Rattle.rules.specs.declared.entry.Reason.TheVariants.{Decided}
 use Rattle.rules.specs.declared.step.Step.TheVariants.{Decide}
 use Rattle.rules.specs.Rules.{decide}
 use Rattle.table.specs.Tables.{state_of}
-use Rattle.history.proofs.Links.{moved, declines, refused_left, puts, decide_pushes}
+use Rattle.history.proofs.Links.{moved, declines, puts, decide_pushes}
 use Rattle.history.proofs.history.History.decide.Goals as goal
 
 pub invariant_of-self : goal.invariant_of-self
 invariant_of-self g c = record {
-  linked = declines _ c.args.self.now.linked c.decide.ensures.claims c.decide.ensures.blames
-      (c.decide.ensures.state ∙ refused_left _ _ (sym c.in_err-count.was ∙ c.decide.ensures.says));
+  linked = declines _ c.args.self.now.linked c.decide.ensures.claims _ c.decide.ensures.blames (sym c.in_err-count.was ∙ c.decide.ensures.says) c.decide.ensures.state;
 }
 
 pub invariant_of-self-2 : goal.invariant_of-self-2

@@ -1,24 +1,20 @@
-use Rattle.std.proofs.Common.{◌≤◌, ◌∙◌, length, Ok, sym, ap, subst}
-use Rattle.rules.specs.Rules.{unless_over, leaves}
+use Rattle.std.proofs.Common.{◌≤◌, ◌∙◌, length, sym, ap, subst}
+use Rattle.rules.specs.Rules.{leaves}
 use Rattle.table.specs.Tables.{state_of}
 use Rattle.history.specs.Fits.{written}
-use Rattle.history.proofs.Links.{moved, complete, complete_refuses}
-use Rattle.history.proofs.Steps.{ends, written_possible}
+use Rattle.history.proofs.Links.{moved}
+use Rattle.history.proofs.Steps.{ends, incomplete, written_possible}
 use Rattle.history.proofs.history.History.fit.Goals as goal
 
 pub returns-in_err-check_complete-clause-state : goal.returns-in_err-check_complete-clause-state
 returns-in_err-check_complete-clause-state g c =
-    let M = g.T.Theory.means (g.T.Theory.shape_of c.args.self.now.theory) in
-    let s = state_of c.args.self.now.table in
-    sym (ap (leaves s) (complete_refuses M.claims s _ (sym c.in_err-check_complete.was ∙ c.check_complete.ensures
-    ∙ ap (λ n. unless_over {A = Unit {0}} s (complete n s (Ok tt))) (sym c.args.self.now.linked.claims))))
+    sym (ap (leaves (state_of c.args.self.now.table)) (incomplete c.args.self.now.linked _ (sym c.in_err-check_complete.was ∙ c.check_complete.ensures)))
 
 pub returns-in_err-check_complete-clause-place : goal.returns-in_err-check_complete-clause-place
 returns-in_err-check_complete-clause-place g c =
     let M = g.T.Theory.means (g.T.Theory.shape_of c.args.self.now.theory) in
     let s = state_of c.args.self.now.table in
-    sym (ap (λ o. written M s o c.args.place.now) (complete_refuses M.claims s _ (sym c.in_err-check_complete.was ∙ c.check_complete.ensures
-    ∙ ap (λ n. unless_over {A = Unit {0}} s (complete n s (Ok tt))) (sym c.args.self.now.linked.claims))))
+    sym (ap (λ o. written M s o c.args.place.now) (incomplete c.args.self.now.linked _ (sym c.in_err-check_complete.was ∙ c.check_complete.ensures)))
 
 pub invariant_of-self : goal.invariant_of-self
 invariant_of-self g c =

@@ -1,26 +1,24 @@
-use Rattle.std.proofs.Common.{◌≡◌, ◌∙◌, true, [], ◌∷◌, ◌++◌, take, Ok, sym, ap, subst}
+use Rattle.std.proofs.Common.{◌≡◌, ◌∙◌, true, [], ◌∷◌, ◌++◌, take, sym, ap, subst}
 use Rattle.std.proofs.lemmas.List.{length-map}
 use Rattle.theory.specs.Literals.{complement, names}
 use Rattle.theory.specs.Calls.{assert_leaves}
 use Rattle.theory.specs.Meaning.{impossible}
-use Rattle.rules.specs.Rules.{is_possible, literals, asserted, fresh, unless_over}
+use Rattle.rules.specs.Rules.{is_possible, asserted}
 use Rattle.rules.proofs.Accepted.{Fresh}
-use Rattle.rules.proofs.Trails.{asserted_names, complement_named}
 use Rattle.clauses.specs.Stored.{clause_of}
 use Rattle.table.specs.Tables.{state_of, claims_of}
 use Rattle.history.proofs.Asking.{some_found}
-use Rattle.history.proofs.Links.{moved}
-use Rattle.history.proofs.Steps.{implies, fresh_is}
+use Rattle.history.proofs.Links.{moved, complement_off}
+use Rattle.history.proofs.Steps.{implies, fresh_is, free_still}
 use Rattle.history.proofs.history.History.imply.Goals as goal
 
 pub ask_with-requires-clause-off : goal.ask_with-requires-clause-off
 ask_with-requires-clause-off g c =
     let h = c.is_possible.new.self in
     let s = state_of h.table in
-    let free = sym c.in_ok-check_fresh.was ∙ c.check_fresh.ensures
-    ∙ ap (λ t. unless_over {A = Unit {0}} (state_of t) (fresh (claims_of t) (state_of t) c.args.l (Ok tt))) (sym c.is_possible.ensures.table) in
+    let free = free_still c.args.l c.is_possible.ensures.table (sym c.in_ok-check_fresh.was ∙ c.check_fresh.ensures) in
     ap (names (g.T.Theory.asserted h.theory)) c.complement_of.ensures ∙ ap (λ ys. names ys (complement c.args.l)) h.linked.same
-    ∙ asserted_names s.trail (complement c.args.l) ∙ complement_named (literals s.trail) c.args.l ∙ (fresh_is (claims_of h.table) s c.args.l free).off
+    ∙ complement_off (fresh_is (claims_of h.table) s c.args.l free)
 
 pub invariant_of-self-2 : goal.invariant_of-self-2
 invariant_of-self-2 g c =
@@ -29,8 +27,7 @@ invariant_of-self-2 g c =
     let xs = g.T.Theory.asserted h.theory in
     let s = state_of h.table in
     let few = λ (x : g.T.Theory.Shape). (g.T.Theory.means x).claims in
-    let free = sym c.in_ok-check_fresh.was ∙ c.check_fresh.ensures
-    ∙ ap (λ t. unless_over {A = Unit {0}} (state_of t) (fresh (claims_of t) (state_of t) c.args.l (Ok tt))) (sym c.is_possible.ensures.table) in
+    let free = free_still c.args.l c.is_possible.ensures.table (sym c.in_ok-check_fresh.was ∙ c.check_fresh.ensures) in
     let f : Fresh M.claims s c.args.l = subst (λ n. Fresh n s c.args.l) (sym h.linked.claims) (fresh_is (claims_of h.table) s c.args.l free) in
     let p : is_possible (M.answer xs) ≡ true = ap (λ ys. is_possible (M.answer ys)) h.linked.same
     ∙ ap (λ t. is_possible (M.answer (asserted (state_of t).trail))) c.is_possible.ensures.table

@@ -1,13 +1,12 @@
 use Rattle.std.proofs.Common.{◌∙◌, reverse, sym, ap}
 use Rattle.theory.specs.Calls.{assert_leaves}
-use Rattle.history.proofs.Links.{moved, declines, refused_left}
+use Rattle.history.proofs.Links.{moved, declines}
 use Rattle.history.proofs.Steps.{jumps}
 use Rattle.history.proofs.history.History.jump.Goals as goal
 
 pub invariant_of-self : goal.invariant_of-self
 invariant_of-self g c = record {
-  linked = declines _ c.args.self.now.linked c.jump.ensures.claims c.jump.ensures.blames
-      (c.jump.ensures.state ∙ refused_left _ _ (sym c.in_err-count.was ∙ c.jump.ensures.says));
+  linked = declines _ c.args.self.now.linked c.jump.ensures.claims _ c.jump.ensures.blames (sym c.in_err-count.was ∙ c.jump.ensures.says) c.jump.ensures.state;
 }
 
 pub invariant_of-self-in-Some : goal.invariant_of-self-in-Some

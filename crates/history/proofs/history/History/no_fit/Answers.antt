@@ -1,4 +1,3 @@
-use Rattle.std.proofs.Common.{◌∙◌, ap}
 use Rattle.rules.specs.declared.step.Step.TheVariants.{NoFit}
 use Rattle.table.specs.Tables.{state_of}
 use Rattle.history.proofs.Links.{stays, no_fit_stays}
@@ -6,6 +5,5 @@ use Rattle.history.proofs.history.History.no_fit.Goals as goal
 
 pub invariant_of-self : goal.invariant_of-self
 invariant_of-self g c = record {
-  linked = stays _ c.args.self.now.linked c.no_fit.ensures.claims NoFit c.no_fit.ensures.blames c.no_fit.ensures.state
-      (ap (λ s. s.trail) c.no_fit.ensures.state ∙ no_fit_stays (state_of c.args.self.now.table));
+  linked = stays _ c.args.self.now.linked c.no_fit.ensures.claims NoFit c.no_fit.ensures.blames c.no_fit.ensures.state (no_fit_stays (state_of c.args.self.now.table));
 }

@@ -3,13 +3,12 @@ use Rattle.rules.specs.declared.entry.Reason.TheVariants.{Clause}
 use Rattle.rules.specs.declared.step.Step.TheVariants.{Propagate}
 use Rattle.rules.specs.Rules.{propagate}
 use Rattle.table.specs.Tables.{state_of}
-use Rattle.history.proofs.Links.{moved, declines, refused_left, puts, propagate_pushes}
+use Rattle.history.proofs.Links.{moved, declines, puts, propagate_pushes}
 use Rattle.history.proofs.history.History.propagate.Goals as goal
 
 pub invariant_of-self : goal.invariant_of-self
 invariant_of-self g c = record {
-  linked = declines _ c.args.self.now.linked c.propagate.ensures.claims c.propagate.ensures.blames
-      (c.propagate.ensures.state ∙ refused_left _ _ (sym c.in_err-count.was ∙ c.propagate.ensures.says));
+  linked = declines _ c.args.self.now.linked c.propagate.ensures.claims _ c.propagate.ensures.blames (sym c.in_err-count.was ∙ c.propagate.ensures.says) c.propagate.ensures.state;
 }
 
 pub invariant_of-self-2 : goal.invariant_of-self-2

@@ -1,6 +1,7 @@
-use Rattle.std.proofs.Common.{◌≡◌, ℕ, ◌+◌, ◌∷◌, [], ◌++◌, length, vec_items, take, set, None, refl, sym, ap, ◌∙◌, arith}
+use Rattle.std.proofs.Common.{◌≡◌, ℕ, ◌+◌, ◌∷◌, [], ◌++◌, length, vec_items, reverse, take, set, None, refl, sym, ap, ◌∙◌, arith}
 use Rattle.std.proofs.lemmas.List.{length_push}
-use Rattle.trail.proofs.Kept.{Kept, kept, kept_as, kept_pop, proper_pop}
+use Rattle.rules.proofs.Trails.{latest_goes}
+use Rattle.trail.proofs.Kept.{Kept, kept, kept_as, kept_pop, proper_turned}
 use Rattle.trail.proofs.trail.Trail.pop.Goals as goal
 use Rattle.trail.proofs.trail.Trail.pop.Goals.{After-from}
 
@@ -17,7 +18,9 @@ left c =
 
 pub bounds-self-from : goal.bounds-self-from
 bounds-self-from c =
-    omega (arith, (proper_pop c.args.self.now.claims c.pop.new.self.items c.in-Some.entry (before c).proper).below, c.args.self.now.few)
+    let n = c.args.self.now.claims in
+    let es = c.pop.new.self.items in
+    omega (arith, (latest_goes n c.in-Some.entry (reverse es) (proper_turned n es c.in-Some.entry (before c).proper)).below, c.args.self.now.few)
 
 pub invariant_of-self : goal.invariant_of-self
 invariant_of-self c =

@@ -3,9 +3,10 @@ use Rattle.std.proofs.lemmas.List.{length_push, length-reverse}
 use Rattle.rules.specs.declared.entry.Entry.{Entry}
 use Rattle.rules.specs.declared.entry.Reason.{Reason}
 use Rattle.rules.specs.Rules.{decisions, level}
+use Rattle.rules.proofs.Trails.{Takes, proper_length}
 use Rattle.trail.specs.declared.trail.Trail.{Trail}
 use Rattle.trail.specs.Trails.{trail_of}
-use Rattle.trail.proofs.Kept.{proper_more, proper_length, level_few, Takes, takes, kept, kept_as, kept_push}
+use Rattle.trail.proofs.Kept.{proper_more, level_few, takes, kept, kept_as, kept_push}
 use Rattle.trail.proofs.trail.Trail.push.Goals as goal
 use Rattle.trail.proofs.trail.Trail.push.Goals.{in-Decided, in-Clause}
 
@@ -26,7 +27,7 @@ counted r t k d e h = omega arith
 fits : (a : Trail) (l : ℕ) (r : Reason) → Takes a.claims (trail_of a) l → length (vec_items a.entries) < a.claims
 fits a l r t =
     let e : Entry = record { literal = l; reason = r } in
-    let w = proper_length a.claims (reverse (vec_items a.entries ++ e ∷ [])) (proper_more a.claims (vec_items a.entries) e a.proper t.below t.new) in
+    let w = proper_length a.claims (reverse (vec_items a.entries ++ e ∷ [])) (proper_more a.claims (vec_items a.entries) e a.proper t.below t.off) in
     omega (arith, w, length-reverse (vec_items a.entries ++ e ∷ []), length_push (vec_items a.entries) e)
 
 pub push_reserved-requires : goal.push_reserved-requires
