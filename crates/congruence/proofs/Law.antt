@@ -16,7 +16,7 @@ use Rattle.congruence.specs.declared.step.Reason.{Reason}
 use Rattle.congruence.specs.Table.{arg, Lower}
 use Rattle.congruence.specs.Congruence.{Fit, Joined}
 use Rattle.congruence.specs.Merges.{when, label, pair_at, pair_of, settle, join, absorb, log_at, log_of, needed}
-use Rattle.congruence.specs.Equality.{Says, clashes, clash, core, answer_of, equality, row, Named, Asserts, Asserted, Contradicted, Labelled, OneDenial, Stands}
+use Rattle.congruence.specs.Equality.{Says, clashes, clash, core, answer_of, equality, row, Named, Asserts, Asserted, Contradicted, LowestJoined, Lowest, OneDenial, Stands}
 use Rattle.congruence.specs.Log.{Logged}
 use Rattle.congruence.proofs.Searches.{found, not_found, when_some, when_none, row_long, row_at}
 use Rattle.congruence.proofs.Closing.{settles, joins, roots_few, label_low, label_root}
@@ -148,22 +148,22 @@ module _ (ts : List Term) (claims : List Claim) (named : Named ts claims) (ls : 
         → Joined ts (At (Asserts claims ls) (λ p. needed ts (log_of ts claims ls) p t u)) t u
     one_label = explained ts (Asserts claims ls) lower (log_of ts claims ls) good.logged
 
-    labelled : Labelled ts claims ls (label (log_of ts claims ls))
-    labelled = record {
-      joins = λ t u ht hu j. given j;
-      only = only;
-      own = λ t h. only t (label (log_of ts claims ls) t) h
-          (omega (arith, label_low ts (Asserts claims ls) (log_of ts claims ls) good.logged t))
-          (sym (label_root ts (Asserts claims ls) (log_of ts claims ls) good.logged t));
-      lowest = λ t u ht hu j. omega (arith, given j, label_low ts (Asserts claims ls) (log_of ts claims ls) good.logged u);
-    }
-      where
-        given : {t u : ℕ} → Joined ts (Asserted claims ls) t u → label (log_of ts claims ls) t ≡ label (log_of ts claims ls) u
-        given j = complete ts (Asserted claims ls) (label (log_of ts claims ls)) good.fit (λ t u a. good.equal a.0 t u a.1.within a.1) j
+    -- two terms have one label exactly if the asserted equalities join them
+    given : {t u : ℕ} → Joined ts (Asserted claims ls) t u → label (log_of ts claims ls) t ≡ label (log_of ts claims ls) u
+    given j = complete ts (Asserted claims ls) (label (log_of ts claims ls)) good.fit (λ t u a. good.equal a.0 t u a.1.within a.1) j
 
-        only : (t u : ℕ) → t < length ts → u < length ts → label (log_of ts claims ls) t ≡ label (log_of ts claims ls) u → Joined ts (Asserted claims ls) t u
-        only t u ht hu e =
-            widen ts (At (Asserts claims ls) (λ p. needed ts (log_of ts claims ls) p t u)) (Asserted claims ls) (λ x y a. (a.0, a.2)) (one_label t u ht hu e)
+    only : (t u : ℕ) → t < length ts → u < length ts → label (log_of ts claims ls) t ≡ label (log_of ts claims ls) u → Joined ts (Asserted claims ls) t u
+    only t u ht hu e =
+        widen ts (At (Asserts claims ls) (λ p. needed ts (log_of ts claims ls) p t u)) (Asserted claims ls) (λ x y a. (a.0, a.2)) (one_label t u ht hu e)
+
+    -- and a label is the lowest number of a term with it
+    lowest_label : (t : ℕ) → t < length ts → LowestJoined ts claims ls t (label (log_of ts claims ls) t)
+    lowest_label t h =
+        let low = label_low ts (Asserts claims ls) (log_of ts claims ls) good.logged in
+        record {
+          joined = only t (label (log_of ts claims ls) t) h (omega (arith, low t)) (sym (label_root ts (Asserts claims ls) (log_of ts claims ls) good.logged t));
+          lowest = λ u j. omega (arith, given j, low u);
+        }
 
     -- ---- the fit that is written
 
@@ -180,6 +180,14 @@ module _ (ts : List Term) (claims : List Claim) (named : Named ts claims) (ls : 
 
     same_out : (t u : ℕ) → t < length ts → u < length ts → label (log_of ts claims ls) t ≡ label (log_of ts claims ls) u → num out t ≡ num out u
     same_out t u ht hu e = out_at t ht ∙ ap pos e ∙ sym (out_at u hu)
+
+    out_lowest : Lowest ts claims ls out
+    unfolding out
+    out_lowest = record {
+      long = row_long 0 (length ts) _;
+      lowest = λ t h. (label (log_of ts claims ls) t, out_at t h, lowest_label t h);
+      same = λ t u ht hu. (λ e. only t u ht hu (same_label t u ht hu e), λ j. same_out t u ht hu (given j));
+    }
 
     out_fit : Fit ts (num out)
     out_fit t u ht hu (s, a, args) =
@@ -257,13 +265,13 @@ module _ (ts : List Term) (claims : List Claim) (named : Named ts claims) (ls : 
     contradicted d z = record {
       within = z.within;
       odd = z.odd;
-      joined = labelled.only _ _ (pair_in d z.within).0 (pair_in d z.within).1 z.one_class;
+      joined = only _ _ (pair_in d z.within).0 (pair_in d z.within).1 z.one_class;
     }
 
     uncontradicted : clash ts claims ls ≡ None → (d : ℕ) → Contradicted ts claims ls d → ⊥
     uncontradicted e d x =
         let y = when_none _ _ (not_found (length ls) (λ p. when (clashes (label (log_of ts claims ls)) claims (get_or ls p 0)) p) e d x.within) in
-        let one_class = labelled.joins _ _ (pair_in d x.within).0 (pair_in d x.within).1 x.joined in
+        let one_class = given x.joined in
         let z : true ≡ false =
         sym (and_from _ _ (not_from_false _ (ne_eqb (get_or ls d 0 % 2) 0 (λ q. omega (arith, x.odd, q)))) (eq-eqb _ _ one_class)) ∙ y in cc
 
@@ -295,7 +303,7 @@ stands ts claims few_ts lower few named =
             core_is_false ts claims named ls p lower w.0 (denied ts claims named ls p lower w.0 w.1) v f.1
             (subst (All (λ q. Holds claims v (get_or ls q 0))) (sym w.2) h);
       };
-      labels = λ ls p. labelled ts claims named ls p lower;
+      lowest = λ ls p. out_lowest ts claims named ls p lower;
       contradicted = λ ls ps p e. let w = split ls ps e in (w.0, contradicted ts claims named ls p lower w.0 (denied ts claims named ls p lower w.0 w.1));
       uncontradicted = λ ls p e d x. uncontradicted ts claims named ls p lower (when_possible (core ts claims ls) (clash ts claims ls) e) d x;
       denial = λ ls ps p e. let w = split ls ps e in

@@ -1,5 +1,5 @@
 -- The theory of equality: a claim says that two terms are equal. Assumes nothing.
-use Rattle.std.specs.Prelude.{◌≡◌, ℕ, zero, suc, ◌+◌, ◌%◌, ◌<◌, ◌≤◌, Bool, true, not, ◌&&◌, ◌||◌, List, [], ◌∷◌, length, get_or, ℤ, pos, Some, None, Option, ◌==◌, ◌≢◌, slice_index}
+use Rattle.std.specs.Prelude.{◌≡◌, ℕ, zero, suc, ◌+◌, ◌%◌, ◌<◌, ◌≤◌, Bool, true, not, ◌&&◌, ◌||◌, List, [], ◌∷◌, length, get_or, ℤ, pos, Some, None, Option, ◌==◌, ◌≢◌, ◌↔◌, slice_index}
 use Rattle.theory.specs.declared.term.Term.{Term}
 use Rattle.theory.specs.Literals.{has, Proper}
 use Rattle.theory.specs.Meaning.{Answer, possible, impossible, Meaning, num, Lawful}
@@ -70,13 +70,17 @@ pub record Contradicted (ts : List Term) (claims : List Claim) (ls : List ℕ) (
   pub odd : get_or ls p 0 % 2 ≡ 1
   pub joined : Joined ts (Asserted claims ls) (pair_of claims (slice_index ls p)).left (pair_of claims (slice_index ls p)).right
 
--- two terms have one label exactly if the asserted equalities join them, and the label is the lowest number of a term
--- joined with them
-pub record Labelled (ts : List Term) (claims : List Claim) (ls : List ℕ) (num : ℕ → ℕ) : Type 0 where
-  pub joins : (t u : ℕ) → t < length ts → u < length ts → Joined ts (Asserted claims ls) t u → num t ≡ num u
-  pub only : (t u : ℕ) → t < length ts → u < length ts → num t ≡ num u → Joined ts (Asserted claims ls) t u
-  pub own : (t : ℕ) → t < length ts → Joined ts (Asserted claims ls) t (num t)
-  pub lowest : (t u : ℕ) → t < length ts → u < length ts → Joined ts (Asserted claims ls) t u → num t ≤ u
+-- the lowest number of a term that the asserted equalities join with `t`
+pub record LowestJoined (ts : List Term) (claims : List Claim) (ls : List ℕ) (t k : ℕ) : Type 0 where
+  pub joined : Joined ts (Asserted claims ls) t k
+  pub lowest : (u : ℕ) → Joined ts (Asserted claims ls) t u → k ≤ u
+
+-- a number for each term: the lowest number of a term joined with it. Two have one number exactly if they are joined
+pub record Lowest (ts : List Term) (claims : List Claim) (ls : List ℕ) (v : List ℤ) : Type 0 where
+  pub long : length v ≡ length ts
+  pub lowest : (t : ℕ) → t < length ts → (k : ℕ) × (num v t ≡ pos k) × LowestJoined ts claims ls t k
+  pub same : (t u : ℕ) → t < length ts → u < length ts
+      → (num v t ≡ num v u) ↔ Joined ts (Asserted claims ls) t u
 
 -- just one position of a core has a denial
 pub record OneDenial (ls ps : List ℕ) : Type 0 where
@@ -85,14 +89,21 @@ pub record OneDenial (ls ps : List ℕ) : Type 0 where
   pub denies : get_or ls place 0 % 2 ≡ 1
   pub others : (p : ℕ) → has ps p ≡ true → (p ≢ place) → slice_index ls p % 2 ≡ 0
 
--- the law of a theory; what Write puts down; when a list is impossible; what a core has
+-- the law of a theory; what is written; when a list is impossible; what a core has
 pub record Standing (ts : List Term) (claims : List Claim) : Type 0 where
   pub law : Lawful (equality ts claims)
-  pub labels : (ls : List ℕ) → Proper (length claims) ls → Labelled ts claims ls (label (log_of ts claims ls))
-  pub contradicted : (ls ps : List ℕ) → Proper (length claims) ls → (equality ts claims).answer ls ≡ impossible ps → (p : ℕ) × Contradicted ts claims ls p
-  pub uncontradicted : (ls : List ℕ) → Proper (length claims) ls → (equality ts claims).answer ls ≡ possible → (p : ℕ) → Contradicted ts claims ls p → ⊥
-  pub denial : (ls ps : List ℕ) → Proper (length claims) ls → (equality ts claims).answer ls ≡ impossible ps → OneDenial ls ps
+  -- what is written, for a possible list or not
+  pub lowest : (ls : List ℕ) → Proper (length claims) ls → Lowest ts claims ls ((equality ts claims).written ls)
+  -- a list is impossible exactly if it denies what it joins
+  pub contradicted : (ls ps : List ℕ) → Proper (length claims) ls → (equality ts claims).answer ls ≡ impossible ps
+      → (p : ℕ) × Contradicted ts claims ls p
+  pub uncontradicted : (ls : List ℕ) → Proper (length claims) ls → (equality ts claims).answer ls ≡ possible
+      → (p : ℕ) → Contradicted ts claims ls p → ⊥
+  -- a core has one denial
+  pub denial : (ls ps : List ℕ) → Proper (length claims) ls → (equality ts claims).answer ls ≡ impossible ps
+      → OneDenial ls ps
 
 abbrev pub Stands : Type 0
 Stands =
-    (ts : List Term) (claims : List Claim) → length ts ≤ 256 → Lower ts → length claims ≤ 128 → Named ts claims → Standing ts claims
+    (ts : List Term) (claims : List Claim) → length ts ≤ 256 → Lower ts → length claims ≤ 128 → Named ts claims
+    → Standing ts claims

@@ -1,6 +1,6 @@
 -- The merges that a list of literals leads to, the labels that they leave, and what joins two terms. A log of merges
 -- has its latest first. Assumes nothing.
-use Rattle.std.specs.Prelude.{ℕ, zero, suc, ◌%◌, min, max, Bool, true, false, cond, not, ◌&&◌, ◌||◌, List, [], ◌∷◌, length, Some, None, Option, ◌==◌, nat_eq, slice_index, slice_index_or}
+use Rattle.std.specs.Prelude.{ℕ, zero, suc, ◌%◌, min, max, Bool, true, false, if◌then◌else◌, not, ◌&&◌, ◌||◌, List, [], ◌∷◌, length, Some, None, Option, ◌==◌, nat_eq, slice_index, slice_index_or}
 use Rattle.theory.specs.declared.term.Term.{Term}
 use Rattle.theory.specs.Literals.{claim}
 use Rattle.theory.specs.Terms.{at}
@@ -42,7 +42,7 @@ any_below (suc k) p = p k || any_below k p
 
 -- the label `high` becomes `low`
 abbrev pub relabel : ℕ → ℕ → ℕ → ℕ
-relabel high low c = cond (c == high) low c
+relabel high low c = if c == high then low else c
 
 -- the label of a term after the merges of a log
 abbrev pub label : List Step → ℕ → ℕ
@@ -90,7 +90,7 @@ settle ts (suc k) log = settle ts k (sweep ts (length ts) log)
 -- the log once `a` and `b` have one label, for a reason
 abbrev pub join : List Term → ℕ → ℕ → Reason → List Step → List Step
 join ts a b reason log =
-    cond (label log a == label log b) log (settle ts (length ts) (merge log a b reason ∷ log))
+    if label log a == label log b then log else settle ts (length ts) (merge log a b reason ∷ log)
 
 -- the claim numbered `i`
 abbrev pub pair_at : List Claim → ℕ → Claim
@@ -103,7 +103,7 @@ pair_of claims l = pair_at claims (claim l)
 -- the log with one more literal, which stands at a position; a denial merges nothing
 abbrev pub absorb : List Term → List Claim → ℕ → ℕ → List Step → List Step
 absorb ts claims p l log =
-    cond (l % 2 == 0) (join ts (pair_of claims l).left (pair_of claims l).right (Asserted p) log) log
+    if l % 2 == 0 then join ts (pair_of claims l).left (pair_of claims l).right (Asserted p) log else log
 
 -- the log of the first `k` literals of a list
 unfoldable pub log_at : List Term → List Claim → List ℕ → ℕ → List Step
@@ -125,12 +125,12 @@ rests ts needs p s Congruence =
 -- whether a position is on the way from `t` to `u` by a merge: to one of its ends, and from the other end on
 abbrev pub crosses : (ℕ → ℕ) → (ℕ → ℕ → Bool) → Step → ℕ → ℕ → Bool
 crosses num needs s t u =
-    cond (num t == num s.left) (needs t s.left || needs s.right u) (needs t s.right || needs s.left u)
+    if num t == num s.left then needs t s.left || needs s.right u else needs t s.right || needs s.left u
 
 -- whether the literal at position `p` is needed to join two terms that have one label: for the merge at which they met,
 -- or to reach its ends
 unfoldable pub needed : List Term → List Step → ℕ → ℕ → ℕ → Bool
 needed ts [] p t u = false
 needed ts (s ∷ older) p t u =
-    cond (label older t == label older u) (needed ts older p t u)
-    (crosses (label older) (needed ts older p) s t u || rests ts (needed ts older p) p s s.reason)
+    if label older t == label older u then needed ts older p t u
+    else crosses (label older) (needed ts older p) s t u || rests ts (needed ts older p) p s s.reason

@@ -1,4 +1,5 @@
-//! What equality over a table of terms means: fits, joined terms, merges and cores, with the law proved.
+//! What equality over a table of terms means: fits, joined terms, merges and cores, with the law
+//! proved.
 #![tactic(auto)]
 
 ghost use Rattle.congruence.specs.Samples.{Samples};

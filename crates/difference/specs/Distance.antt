@@ -1,5 +1,6 @@
--- The theory of distances: a claim bounds the difference of two terms, and every list of numbers is a fit. Assumes nothing.
-use Rattle.std.specs.Prelude.{◌≡◌, ℕ, ◌%◌, ◌≤◌, cond, List, [], map, length, ℤ, pos, ◌-ℤ◌, neg_ℤ, ◌==◌}
+-- The theory of distances: a claim bounds the difference of two terms, and every list of numbers is a fit. Assumes
+-- nothing.
+use Rattle.std.specs.Prelude.{◌≡◌, ℕ, ◌%◌, ◌≤◌, if◌then◌else◌, List, [], map, length, ℤ, pos, ◌-ℤ◌, neg_ℤ, ◌==◌}
 use Rattle.theory.specs.Literals.{claim, Proper}
 use Rattle.theory.specs.Meaning.{Answer, possible, impossible, Meaning, Lawful}
 use Rattle.difference.specs.declared.bound.Bound.{Bound}
@@ -12,7 +13,7 @@ denied b = record { term = b.base; base = b.term; most = neg_ℤ b.most -ℤ pos
 
 -- what a literal says: the claim, or its denial
 abbrev pub bound_of : List Bound → ℕ → Bound
-bound_of claims l = cond (l % 2 == 0) (at claims (claim l)) (denied (at claims (claim l)))
+bound_of claims l = if l % 2 == 0 then at claims (claim l) else denied (at claims (claim l))
 
 -- what a list of literals says
 abbrev pub said : List Bound → List ℕ → List Bound
@@ -38,14 +39,19 @@ distances m claims = record {
 
 -- ---- what is proved of it
 
+-- the law of a theory; what is written; when a list is impossible; what a core has
 pub record Standing (m : ℕ) (claims : List Bound) : Type 0 where
   pub law : Lawful (distances m claims)
   -- what is written is the greatest fit at or below 0
-  pub greatest : (ls : List ℕ) → Proper (length claims) ls → (distances m claims).answer ls ≡ possible → Greatest m (said claims ls) ((distances m claims).written ls)
+  pub greatest : (ls : List ℕ) → Proper (length claims) ls → (distances m claims).answer ls ≡ possible
+      → Greatest m (said claims ls) ((distances m claims).written ls)
   -- a core is the positions of one simple negative cycle
-  pub cyclic : (ls core : List ℕ) → Proper (length claims) ls → (distances m claims).answer ls ≡ impossible core → Core (said claims ls) core
+  pub cyclic : (ls core : List ℕ) → Proper (length claims) ls → (distances m claims).answer ls ≡ impossible core
+      → Core (said claims ls) core
   -- and a possible list has no negative cycle
-  pub acyclic : (ls ps : List ℕ) → Proper (length claims) ls → (distances m claims).answer ls ≡ possible → NegativeCycle (said claims ls) ps → ⊥
+  pub acyclic : (ls ps : List ℕ) → Proper (length claims) ls → (distances m claims).answer ls ≡ possible
+      → NegativeCycle (said claims ls) ps → ⊥
 
 abbrev pub Stands : Type 0
-Stands = (m : ℕ) (claims : List Bound) → m ≤ 256 → length claims ≤ 128 → Named m claims → Standing m claims
+Stands =
+    (m : ℕ) (claims : List Bound) → m ≤ 256 → length claims ≤ 128 → Named m claims → Standing m claims

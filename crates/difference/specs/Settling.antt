@@ -1,5 +1,5 @@
 -- How the greatest fit of a list of bounds, or a negative cycle, is found: a function of the list alone. Assumes nothing.
-use Rattle.std.specs.Prelude.{ℕ, zero, suc, ◌+◌, Bool, cond, List, [], ◌∷◌, ◌++◌, length, replicate, ℤ, pos, ◌+ℤ◌, ◌-ℤ◌, ◌==◌, int_lt, slice_index, slice_set}
+use Rattle.std.specs.Prelude.{ℕ, zero, suc, ◌+◌, Bool, if◌then◌else◌, List, [], ◌∷◌, ◌++◌, length, replicate, ℤ, pos, ◌+ℤ◌, ◌-ℤ◌, ◌==◌, int_lt, slice_index, slice_set}
 use Rattle.theory.specs.Literals.{has}
 use Rattle.theory.specs.Positions.{put, listed}
 use Rattle.theory.specs.Meaning.{num}
@@ -15,13 +15,17 @@ pub data Outcome : Type 0 where
 abbrev pub limit : List ℤ → Bound → ℤ
 limit row b = num row b.base +ℤ b.most
 
+-- a row with the term of a bound lowered to what the bound allows
+abbrev pub lowered : List ℤ → Bound → List ℤ
+lowered row b = slice_set row b.term (limit row b)
+
 -- how far a row breaks a bound
 abbrev pub excess : List ℤ → Bound → ℤ
 excess row b = num row b.term -ℤ limit row b
 
 -- of the bound broken most so far and the next one, at position i, that which is broken more
 abbrev pub worse : List ℤ → ℕ → ℕ × ℤ → Bound → ℕ × ℤ
-worse row i best b = cond (int_lt best.1 (excess row b)) (i, excess row b) best
+worse row i best b = if int_lt best.1 (excess row b) then (i, excess row b) else best
 
 unfoldable pub worst_from : List ℤ → ℕ → ℕ × ℤ → List Bound → ℕ × ℤ
 worst_from row i best [] = best
@@ -42,7 +46,7 @@ unfoldable pub back : List Bound → List ℕ → ℕ → ℕ → List ℕ
 back bs steps zero x = []
 back bs steps (suc k) x =
     put (lowers bs steps k x) (slice_index steps k)
-    (back bs steps k (cond (lowers bs steps k x) (at bs (slice_index steps k)).base x))
+    (back bs steps k (if lowers bs steps k x then (at bs (slice_index steps k)).base else x))
 
 -- the bound at position p, and the steps that led to its base
 abbrev pub around : List Bound → List ℕ → ℕ → List ℕ
@@ -57,10 +61,9 @@ core bs steps p = listed 0 (length bs) (has (around bs steps p))
 -- one step, of the bound that is broken most: it lowers its term, unless that is u, which closes a cycle
 unfoldable pub turn : List Bound → ℕ → (List ℤ → List ℕ → Outcome) → List ℤ → List ℕ → ℕ × ℤ → Outcome
 turn bs u rest row steps w =
-    cond (int_lt (pos 0) w.1)
-    (cond ((at bs w.0).term == u) (clash (core bs steps w.0))
-    (rest (slice_set row (at bs w.0).term (limit row (at bs w.0))) (steps ++ w.0 ∷ [])))
-    (fits row)
+    if int_lt (pos 0) w.1
+    then (if (at bs w.0).term == u then clash (core bs steps w.0) else rest (lowered row (at bs w.0)) (steps ++ w.0 ∷ []))
+    else fits row
 
 -- lowers the term of the bound that is broken most to what it allows, until none is broken or u would be lowered
 unfoldable pub settle : List Bound → ℕ → ℕ → List ℤ → List ℕ → Outcome

@@ -1,4 +1,5 @@
-//! What distances between terms mean: bounds on differences, their greatest fit and their negative cycles, with the law proved.
+//! What distances between terms mean: bounds on differences, their greatest fit and their negative
+//! cycles, with the law proved.
 #![tactic(auto)]
 
 ghost use Rattle.difference.specs.Samples.{Samples};

@@ -4,4 +4,5 @@ pub mod Queue
 pub mod Rows
 pub mod Table
 pub mod Checks
+pub mod State
 pub mod Made

@@ -2,19 +2,18 @@
 use Rattle.std.specs.Prelude.{◌≡◌, List, [], length, Result}
 use Rattle.theory.specs.declared.refusal.Unmade.{Unmade}
 use Rattle.theory.specs.declared.term.Term.{Term}
-use Rattle.theory.specs.Asserted.{literals_of}
 use Rattle.theory.specs.Made.{Making}
 use Rattle.difference.specs.declared.bound.Bound.{Bound}
 use Rattle.difference.specs.Distance.{Standing}
 use Rattle.distance.specs.declared.state.Distance.{Distance}
+use Rattle.distance.specs.State.{term_count, claims_of, list_of}
 use Rattle.distance.specs.Checks.{Sound, Barred}
-use Rattle.distance.specs.Table.{terms_of}
 
 -- a theory of just these terms and claims, with nothing asserted, of which all that is proved of distances stands
 pub record New (ts : List Term) (claims : List Bound) (d : Distance) : Type 0 where
-  pub terms_are : terms_of d.table ≡ length ts
-  pub claims_are : d.claims.now ≡ claims
-  pub nothing : literals_of d.list ≡ []
+  pub terms_are : term_count d ≡ length ts
+  pub claims_are : claims_of d ≡ claims
+  pub nothing : list_of d ≡ []
   pub stands : Standing (length ts) claims
 
 -- sound records give a theory, or find no memory; others are refused

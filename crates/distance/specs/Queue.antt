@@ -3,7 +3,7 @@ use Rattle.std.specs.Prelude.{◌≡◌, ℕ, ◌<◌, ◌≤◌, Bool, true, �
 use Rattle.theory.specs.Literals.{has}
 use Rattle.difference.specs.declared.bound.Bound.{Bound}
 use Rattle.difference.specs.Bounds.{at}
-use Rattle.difference.specs.Settling.{excess, worst}
+use Rattle.difference.specs.Settling.{lowered, excess, worst}
 use Rattle.distance.specs.Index.{based}
 
 -- whether a row breaks the bound at a position
@@ -17,6 +17,10 @@ Covers row bs qs = (q : ℕ) → q < length bs → breaks row bs q ≡ true → 
 -- the bounds with the base x that a row breaks, the latest first
 abbrev pub broken_on : List ℤ → List Bound → ℕ → List ℕ
 broken_on row bs x = filter (breaks row bs) (based bs x (length bs))
+
+-- the bounds that a row breaks once the bound at p has lowered its term
+abbrev pub now_broken : List ℤ → List Bound → ℕ → List ℕ
+now_broken row bs p = broken_on (lowered row (at bs p)) bs (at bs p).term
 
 -- of the bound broken most so far, if any, and one that is broken, each by its position and how far, the one that is broken
 -- more, or of two alike the earlier

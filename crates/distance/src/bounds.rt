@@ -1,5 +1,5 @@
-//! Bounds one after another, and by their base: for each term the latest bound with that base, and for each bound the one
-//! before it.
+//! Bounds one after another, and by their base: for each term the latest bound with that base, and
+//! for each bound the one before it.
 ghost use Rattle.std.specs.Prelude.{◌≡◌, ◌<◌, ◌≤◌, [], ◌∷◌, ◌++◌, length, take, vec_capacity, IfOk};
 ghost use Rattle.difference.specs.Bounds.{Each, Named};
 ghost use Rattle.difference.specs.Settling.{excess};
@@ -9,13 +9,15 @@ ghost use Rattle.distance.specs.Index.{Heads, Nexts};
 use difference::Bound;
 use std::alloc::{AllocError, Global};
 
-/// Bounds on the differences of `terms` numbers, in order, with an index by their base: `heads` has for each term the position
-/// of the latest bound with that base, and `nexts` for each bound that of the one before it.
+/// Bounds on the differences of `terms` numbers, in order, with an index by their base: `heads` has
+/// for each term the position of the latest bound with that base, and `nexts` for each bound that
+/// of the one before it.
 #[derive(Drop)]
 pub(crate) struct Bounds {
     pub(crate) terms: usize,
     pub(crate) items: Vec<Bound>,
-    // Positions and not boxes: no step may allocate. No fields of one entry: each contract speaks of the bare list of bounds.
+    // Positions and not boxes: no step may allocate. No fields of one entry: each contract speaks
+    // of the bare list of bounds.
     pub(crate) heads: Vec<Option<usize>>,
     pub(crate) nexts: Vec<Option<usize>>,
     ghost few_terms: { terms ≤ 256 },

@@ -10,12 +10,14 @@ use theory::{Found, Refusal, list_marks};
 
 /// Bounds, with what is known of them.
 ///
-/// Row `j` of `rows` holds the greatest numbers at most 0 that keep the first `j` bounds. The first `good` bounds are
-/// possible together; with one more they are not, and the bounds of a cycle are marked.
+/// Row `j` of `rows` holds the greatest numbers at most 0 that keep the first `j` bounds. The first
+/// `good` bounds are possible together; with one more they are not, and the bounds of a cycle are
+/// marked.
 #[derive(Drop)]
 pub struct Table {
     pub(crate) work: Work,
-    // One list and ranges of it: arrays of 256 numbers would take 264 kB for the smallest face, and chunks of no terms may not be taken.
+    // One list and ranges of it: arrays of 256 numbers would take 264 kB for the smallest face, and
+    // chunks of no terms may not be taken.
     rows: Vec<i64>,
     good: usize,
     // Made once, as no step may allocate; they count where `good` is below the number of bounds.
@@ -23,7 +25,8 @@ pub struct Table {
     ghost reached: { good ≤ length work.bounds.items.items },
     ghost possible: { Possible work.bounds.terms work.bounds.items.items rows.items good },
     ghost broken: { Broken work.bounds.terms work.bounds.items.items good marks.items },
-    ghost row_each: { length rows.items ≡ length work.bounds.nexts.items * work.bounds.terms + work.bounds.terms },
+    ghost row_each: { length rows.items
+        ≡ length work.bounds.nexts.items * work.bounds.terms + work.bounds.terms },
     ghost mark_each: { length marks.items ≡ length work.bounds.nexts.items },
 }
 
@@ -103,8 +106,10 @@ impl Table {
     /// Whether some numbers keep all bounds; if none do, puts a core into the place.
     pub(crate) fn find(&self, place: &mut [u16]) -> Result<Found, Refusal>
         requires { length self.now.marks.items ≤ length place.old }
-        ensures says { result ≡ Ok (finds (answer_of (outcome (terms_of self.now) (bounds_on self.now)))) }
-        ensures place { place.new ≡ core_over (answer_of (outcome (terms_of self.now) (bounds_on self.now))) place.old }
+        ensures says { let o = outcome (terms_of self.now) (bounds_on self.now) in
+            result ≡ Ok (finds (answer_of o)) }
+        ensures place { let o = outcome (terms_of self.now) (bounds_on self.now) in
+            place.new ≡ core_over (answer_of o) place.old }
     {
         if self.good == self.work.bounds.len() {
             return Ok(Found::Possible);
@@ -116,8 +121,10 @@ impl Table {
     /// Puts down the greatest numbers, at most 0, that keep all bounds.
     pub(crate) fn put(&self, place: &mut [i64]) -> Result<(), Refusal>
         requires { terms_of self.now ≤ length place.old }
-        ensures says { result ≡ fit_says (answer_of (outcome (terms_of self.now) (bounds_on self.now))) }
-        ensures place { place.new ≡ fit_over (answer_of (outcome (terms_of self.now) (bounds_on self.now))) (row_of (outcome (terms_of self.now) (bounds_on self.now))) place.old }
+        ensures says { let o = outcome (terms_of self.now) (bounds_on self.now) in
+            result ≡ fit_says (answer_of o) }
+        ensures place { let o = outcome (terms_of self.now) (bounds_on self.now) in
+            place.new ≡ fit_over (answer_of o) (row_of o) place.old }
     {
         if self.good < self.work.bounds.len() {
             return Err(Refusal::ListImpossible);

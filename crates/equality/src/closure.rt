@@ -1,5 +1,5 @@
 //! Congruence closure, which keeps a log of its merges and a row of labels after each.
-ghost use Rattle.std.specs.Prelude.{◌≡◌, ℕ, ◌+◌, ◌<◌, ◌≤◌, [], ◌∷◌, length, take, Decides, IfOk, vec_capacity, slice_index, ◌≢◌};
+ghost use Rattle.std.specs.Prelude.{◌≡◌, ℕ, ◌+◌, ◌<◌, ◌≤◌, [], ◌∷◌, length, take, IsTrue, ◌↔◌, IfOk, vec_capacity, slice_index, ◌≢◌};
 ghost use Rattle.theory.specs.Literals.{claim};
 ghost use Rattle.theory.specs.Terms.{at};
 ghost use Rattle.congruence.specs.Table.{arg};
@@ -17,7 +17,8 @@ use theory::Literal;
 
 /// The merges so far, oldest first. `rows[k][t]` is the label of `t` after the first `k` merges,
 /// so that there is one row more than merges.
-// Steps and rows stand apart, for a row comes first. That a term is one of the table is asked by each method: no type of a number could name the table.
+// Steps and rows stand apart, for a row comes first. That a term is one of the table is asked by
+// each method: no type of a number could name the table.
 #[derive(Drop)]
 pub(crate) struct Closure<'a> {
     pub(crate) terms: Terms<'a>,
@@ -47,7 +48,8 @@ fn renamed(x: u16, high: u16, low: u16) -> u16
 
 /// Makes a row of labels that of one more merge.
 fn rename(row: &mut [u16; 256], high: u16, low: u16)
-    ensures { (t : ℕ) → t < 256 → slice_index row.new t ≡ relabel high low (slice_index row.old t) }
+    ensures { (t : ℕ) → t < 256
+        → slice_index row.new t ≡ relabel high low (slice_index row.old t) }
 {
     for x in row.iter_mut() {
         *x = renamed(*x, high, low);
@@ -55,10 +57,13 @@ fn rename(row: &mut [u16; 256], high: u16, low: u16)
 }
 
 impl<'a> Closure<'a> {
+    ghost use Rattle.equality.specs.Closures.{records_of, steps_of, merged};
+
     /// The merges that nothing asserted leads to.
     pub(crate) fn new(heap: Global, table: Terms<'a>) -> Result<Closure<'a>, AllocError>
-        ensures terms { IfOk result (λ c. c.terms.records.now ≡ table.entry.records.now) }
-        ensures settled { IfOk result (λ c. log c.steps.items ≡ settle table.entry.records.now (length table.entry.records.now) []) }
+        ensures terms { IfOk result (λ c. records_of c ≡ table.entry.records.now) }
+        ensures settled { let ts = table.entry.records.now in
+            IfOk result (λ c. merged c ≡ settle ts (length ts) []) }
     {
         let m = table.records.len();
         let steps = Vec::with_capacity(heap, m)?;
@@ -77,32 +82,33 @@ impl<'a> Closure<'a> {
 
     /// The number of merges so far.
     pub(crate) fn merges(&self) -> usize
-        ensures { result ≡ length self.now.steps.items }
+        ensures { result ≡ length (steps_of self.now) }
     {
         self.steps.len()
     }
 
     /// The label of a term after the first `k` merges.
     pub(crate) fn label(&self, k: usize, t: u16) -> u16
-        requires merge { k ≤ length self.now.steps.items }
+        requires merge { k ≤ length (steps_of self.now) }
         requires term { t < 256 }
-        ensures { result ≡ label_at self.now.steps.items k t }
+        ensures { result ≡ label_at (steps_of self.now) k t }
     {
         self.rows[k][usize::from(t)]
     }
 
     /// Whether two terms with one head have arguments of the same labels.
     fn same_arguments(&self, t: u16, u: u16) -> bool
-        requires term { t < length self.now.terms.records.now }
-        requires other { u < length self.now.terms.records.now }
-        requires head { SameHead self.now.terms.records.now t u }
-        ensures { Decides result ((i : ℕ) → i < (at self.now.terms.records.now t).arity
-            → label (log self.now.steps.items) (arg (at self.now.terms.records.now t) i) ≡ label (log self.now.steps.items) (arg (at self.now.terms.records.now u) i)) }
+        requires term { t < length (records_of self.now) }
+        requires other { u < length (records_of self.now) }
+        requires head { SameHead (records_of self.now) t u }
+        ensures { let x = at (records_of self.now) t in let y = at (records_of self.now) u in
+            let num = label (merged self.now) in
+            IsTrue result ↔ ((i : ℕ) → i < x.arity → num (arg x i) ≡ num (arg y i)) }
     {
         let k = self.merges();
         let x = self.terms.records[usize::from(t)];
         let y = self.terms.records[usize::from(u)];
-        // Tried as `zip` and `all` over the arguments: the proof did not close.
+        // One argument after the other, of which there are two at most.
         if x.arity > 0 && self.label(k, x.args[0]) != self.label(k, y.args[0]) {
             return false;
         }
@@ -114,8 +120,8 @@ impl<'a> Closure<'a> {
 
     /// The nearest earlier term that is congruent to `t` and has another label.
     fn twin(&self, t: u16) -> Option<u16>
-        requires { t < length self.now.terms.records.now }
-        ensures { result ≡ twin self.now.terms.records.now (label (log self.now.steps.items)) t }
+        requires { t < length (records_of self.now) }
+        ensures { result ≡ twin (records_of self.now) (label (merged self.now)) t }
     {
         let k = self.merges();
         let mut near = self.terms.nearest(t);
@@ -130,12 +136,14 @@ impl<'a> Closure<'a> {
 
     /// Merges the classes of two terms, and writes that into the log.
     fn merge(&mut self, a: u16, b: u16, reason: Reason)
-        requires left { a < length self.old.terms.records.now }
-        requires right { b < length self.old.terms.records.now }
-        requires apart { label (log self.old.steps.items) a ≢ label (log self.old.steps.items) b }
-        requires rests { RestsOn self.old.terms.records.now (λ p x y. Unit {0}) (label (log self.old.steps.items)) a b reason }
+        requires left { a < length (records_of self.old) }
+        requires right { b < length (records_of self.old) }
+        requires apart { label (merged self.old) a ≢ label (merged self.old) b }
+        requires rests { let num = label (merged self.old) in
+            RestsOn (records_of self.old) (λ p x y. Unit {0}) num a b reason }
         ensures terms { self.new.terms ≡ self.old.terms }
-        ensures ran { Ran self.old.steps.items self.new.steps.items (merge (log self.old.steps.items) a b reason ∷ log self.old.steps.items) }
+        ensures ran { Ran (steps_of self.old) (steps_of self.new)
+            (merge (merged self.old) a b reason ∷ merged self.old) }
     {
         let k = self.merges();
         let x = self.label(k, a);
@@ -156,9 +164,10 @@ impl<'a> Closure<'a> {
 
     /// Merges a term with its twin, if it has one.
     fn pass(&mut self, t: u16)
-        requires { t < length self.old.terms.records.now }
+        requires { t < length (records_of self.old) }
         ensures terms { self.new.terms ≡ self.old.terms }
-        ensures ran { Ran self.old.steps.items self.new.steps.items (pass self.old.terms.records.now t (log self.old.steps.items)) }
+        ensures ran { Ran (steps_of self.old) (steps_of self.new)
+            (pass (records_of self.old) t (merged self.old)) }
     {
         if let Some(u) = self.twin(t) {
             self.merge(t, u, Reason::Congruence);
@@ -168,8 +177,8 @@ impl<'a> Closure<'a> {
     /// Merges each term with its twin, in their order.
     fn sweep(&mut self)
         ensures terms { self.new.terms ≡ self.old.terms }
-        ensures ran { Ran self.old.steps.items self.new.steps.items
-            (sweep self.old.terms.records.now (length self.old.terms.records.now) (log self.old.steps.items)) }
+        ensures ran { Ran (steps_of self.old) (steps_of self.new)
+            (sweep (records_of self.old) (length (records_of self.old)) (merged self.old)) }
     {
         for t in 0..self.terms.len() {
             self.pass(t);
@@ -179,8 +188,8 @@ impl<'a> Closure<'a> {
     /// Sweeps until nothing is merged.
     fn settle(&mut self)
         ensures terms { self.new.terms ≡ self.old.terms }
-        ensures ran { Ran self.old.steps.items self.new.steps.items
-            (settle self.old.terms.records.now (length self.old.terms.records.now) (log self.old.steps.items)) }
+        ensures ran { Ran (steps_of self.old) (steps_of self.new)
+            (settle (records_of self.old) (length (records_of self.old)) (merged self.old)) }
     {
         for _ in 0..self.terms.len() {
             let merges = self.merges();
@@ -194,11 +203,11 @@ impl<'a> Closure<'a> {
     /// Closes the classes again after the literal `l` was put at position `p`.
     pub(crate) fn absorb(&mut self, claims: &[Claim], p: u16, l: Literal)
         requires known { claim l < length claims.now }
-        requires left { (pair_of claims.now l).left < length self.old.terms.records.now }
-        requires right { (pair_of claims.now l).right < length self.old.terms.records.now }
+        requires left { (pair_of claims.now l).left < length (records_of self.old) }
+        requires right { (pair_of claims.now l).right < length (records_of self.old) }
         ensures terms { self.new.terms ≡ self.old.terms }
-        ensures ran { Ran self.old.steps.items self.new.steps.items
-            (absorb self.old.terms.records.now claims.now p l (log self.old.steps.items)) }
+        ensures ran { Ran (steps_of self.old) (steps_of self.new)
+            (absorb (records_of self.old) claims.now p l (merged self.old)) }
     {
         if l % 2 != 0 {
             return;
@@ -214,9 +223,9 @@ impl<'a> Closure<'a> {
 
     /// Keeps the first `k` merges.
     pub(crate) fn cut(&mut self, k: usize)
-        requires { k ≤ length self.old.steps.items }
+        requires { k ≤ length (steps_of self.old) }
         ensures terms { self.new.terms ≡ self.old.terms }
-        ensures steps { self.new.steps.items ≡ take k self.old.steps.items }
+        ensures steps { (steps_of self.new) ≡ take k (steps_of self.old) }
     {
         self.steps.truncate(k);
         self.rows.truncate(k + 1);

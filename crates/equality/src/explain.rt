@@ -7,7 +7,7 @@ ghost use Rattle.equality.specs.Marked.{Joins, Sides, Whole, Grown};
 use crate::closure::Closure;
 use congruence::Reason;
 
-/// The two ends of a merge between two terms: the one on the near side, and the one on the far side.
+/// The two ends of a merge between two terms: the one on the near side, and the other.
 #[derive(Clone, Copy)]
 pub(crate) struct Ends {
     pub(crate) near: u16,
@@ -15,15 +15,17 @@ pub(crate) struct Ends {
 }
 
 impl Closure<'_> {
+    ghost use Rattle.equality.specs.Closures.{records_of, steps_of};
+
     /// The merge at which two terms came into one class, by halving.
     fn joining(&self, t: u16, u: u16, upto: usize) -> usize
-        requires upto { upto ≤ length self.now.steps.items }
+        requires upto { upto ≤ length (steps_of self.now) }
         requires near { t < 256 }
         requires far { u < 256 }
         requires apart { t ≢ u }
-        requires together { label_at self.now.steps.items upto t ≡ label_at self.now.steps.items upto u }
+        requires together { let num = label_at (steps_of self.now) upto in num t ≡ num u }
         ensures below { result < upto }
-        ensures joins { Joins self.now.steps.items t u result }
+        ensures joins { Joins (steps_of self.now) t u result }
     {
         let t = usize::from(t);
         let u = usize::from(u);
@@ -32,10 +34,10 @@ impl Closure<'_> {
 
     /// The ends of merge number `k`, in the order in which they lie between `t` and `u`.
     fn sides(&self, t: u16, u: u16, k: usize) -> Ends
-        requires merge { k < length self.now.steps.items }
-        requires near { t < length self.now.terms.records.now }
-        requires joins { Joins self.now.steps.items t u k }
-        ensures { Sides self.now.terms.records.now self.now.steps.items t u k result }
+        requires merge { k < length (steps_of self.now) }
+        requires near { t < length (records_of self.now) }
+        requires joins { Joins (steps_of self.now) t u k }
+        ensures { Sides (records_of self.now) (steps_of self.now) t u k result }
     {
         let s = self.steps[k];
         if self.label(k, t) == self.label(k, s.left) {
@@ -53,14 +55,14 @@ impl Closure<'_> {
 
     /// Marks merges that join `t` and `u`, each with those that it rests on.
     pub(crate) fn explain(&self, marks: &mut [bool], t: u16, u: u16, upto: usize)
-        requires upto { upto ≤ length self.now.steps.items }
-        requires long { length self.now.steps.items ≤ length marks.old }
-        requires near { t < length self.now.terms.records.now }
-        requires far { u < length self.now.terms.records.now }
-        requires together { label_at self.now.steps.items upto t ≡ label_at self.now.steps.items upto u }
-        requires whole { Whole self.now.terms.records.now self.now.steps.items marks.old }
-        ensures { Grown self.now.terms.records.now self.now.steps.items marks.old marks.new
-            (λ p. needed self.now.terms.records.now (until self.now.steps.items upto) p t u) }
+        requires upto { upto ≤ length (steps_of self.now) }
+        requires long { length (steps_of self.now) ≤ length marks.old }
+        requires near { t < length (records_of self.now) }
+        requires far { u < length (records_of self.now) }
+        requires together { let num = label_at (steps_of self.now) upto in num t ≡ num u }
+        requires whole { Whole (records_of self.now) (steps_of self.now) marks.old }
+        ensures { Grown (records_of self.now) (steps_of self.now) marks.old marks.new
+            (λ p. needed (records_of self.now) (until (steps_of self.now) upto) p t u) }
     {
         if t == u {
             return;

@@ -14,7 +14,8 @@ use theory::{Literal, Refusal, list_marks};
 
 /// Notes the position at which a merge was asserted, if it is marked.
 fn cite(marked: bool, reason: Reason, cited: &mut [bool])
-    ensures { (p : ℕ) → p < length cited.old → slice_index_or cited.new p false ≡ (slice_index_or cited.old p false || (marked && asserted reason p)) }
+    ensures { (p : ℕ) → p < length cited.old → slice_index_or cited.new p false
+        ≡ (slice_index_or cited.old p false || (marked && asserted reason p)) }
 {
     if !marked {
         return;
@@ -30,25 +31,30 @@ fn cite(marked: bool, reason: Reason, cited: &mut [bool])
 fn cite_all(steps: &[Step], marks: &[bool], cited: &mut [bool])
     requires long { length steps.now ≤ length marks.now }
     requires clear { (p : ℕ) → p < length cited.old → slice_index_or cited.old p false ≡ false }
-    ensures { (p : ℕ) → p < length cited.old → slice_index_or cited.new p false ≡ covers steps.now marks.now (length steps.now) p }
+    ensures { (p : ℕ) → p < length cited.old
+        → slice_index_or cited.new p false ≡ covers steps.now marks.now (length steps.now) p }
 {
     for (s, marked) in steps.iter().zip(marks) {
         cite(*marked, s.reason, cited);
     }
 }
 
-// That there is a mark for each merge, and which are set, is asked where marks are lent: the guard holds them while they are set, and the theory otherwise.
+// That there is a mark for each merge, and which are set, is asked where marks are lent: the guard
+// holds them while they are set, and the theory otherwise.
 impl Closure<'_> {
+    ghost use Rattle.equality.specs.Closures.{records_of, steps_of, merged};
+
     /// Which positions are needed to join two terms; the marks are clear again on every way out.
     fn needed(&self, marks: &mut [bool], t: u16, u: u16) -> [bool; 128]
-        requires long { length self.now.steps.items ≤ length marks.old }
+        requires long { length (steps_of self.now) ≤ length marks.old }
         requires clear { (k : ℕ) → slice_index_or marks.old k false ≡ false }
-        requires near { t < length self.now.terms.records.now }
-        requires far { u < length self.now.terms.records.now }
-        requires together { label (log self.now.steps.items) t ≡ label (log self.now.steps.items) u }
+        requires near { t < length (records_of self.now) }
+        requires far { u < length (records_of self.now) }
+        requires together { label (merged self.now) t ≡ label (merged self.now) u }
         ensures length { length marks.new ≡ length marks.old }
         ensures clear { (k : ℕ) → slice_index_or marks.new k false ≡ false }
-        ensures needed { (p : ℕ) → p < 128 → slice_index_or result p false ≡ needed self.now.terms.records.now (log self.now.steps.items) p t u }
+        ensures needed { (p : ℕ) → p < 128
+            → slice_index_or result p false ≡ needed (records_of self.now) (merged self.now) p t u }
     {
         let mut cited = [false; 128];
         let marks = Marks { table: marks };
@@ -62,7 +68,7 @@ impl Closure<'_> {
         requires known { claim l < length claims.now }
         requires left { (pair_of claims.now l).left < 256 }
         requires right { (pair_of claims.now l).right < 256 }
-        ensures { result ≡ clashes (label (log self.now.steps.items)) claims.now l }
+        ensures { result ≡ clashes (label (merged self.now)) claims.now l }
     {
         if l % 2 == 0 {
             return false;
@@ -74,11 +80,11 @@ impl Closure<'_> {
 
     /// The position of the first denial on the list whose two terms are joined.
     pub(crate) fn clash(&self, claims: &[Claim], list: &[Literal]) -> Option<usize>
-        requires listed { Listed self.now.terms.records.now claims.now list.now }
-        requires log { log self.now.steps.items ≡ log_of self.now.terms.records.now claims.now list.now }
-        ensures { result ≡ clash self.now.terms.records.now claims.now list.now }
+        requires listed { Listed (records_of self.now) claims.now list.now }
+        requires log { merged self.now ≡ log_of (records_of self.now) claims.now list.now }
+        ensures { result ≡ clash (records_of self.now) claims.now list.now }
     {
-        // Tried as `position`: the proof did not close.
+        // A loop, since what `clashing` asks is known of the list's literals alone.
         for (p, l) in list.iter().enumerate() {
             if self.clashing(claims, *l) {
                 return Some(p);
@@ -96,17 +102,18 @@ impl Closure<'_> {
         d: usize,
         place: &mut [u16],
     ) -> Result<usize, Refusal>
-        requires long { length self.now.steps.items ≤ length marks.old }
+        requires long { length (steps_of self.now) ≤ length marks.old }
         requires clear { (k : ℕ) → slice_index_or marks.old k false ≡ false }
-        requires listed { Listed self.now.terms.records.now claims.now list.now }
-        requires log { log self.now.steps.items ≡ log_of self.now.terms.records.now claims.now list.now }
+        requires listed { Listed (records_of self.now) claims.now list.now }
+        requires log { merged self.now ≡ log_of (records_of self.now) claims.now list.now }
         requires short { length list.now ≤ 128 }
         requires within { length list.now ≤ length place.old }
-        requires clash { Some d ≡ clash self.now.terms.records.now claims.now list.now }
+        requires clash { Some d ≡ clash (records_of self.now) claims.now list.now }
         ensures length { length marks.new ≡ length marks.old }
         ensures clear { (k : ℕ) → slice_index_or marks.new k false ≡ false }
-        ensures told { result ≡ Ok (length (core self.now.terms.records.now claims.now list.now d)) }
-        ensures place { place.new ≡ over (core self.now.terms.records.now claims.now list.now d) place.old }
+        ensures told { result ≡ Ok (length (core (records_of self.now) claims.now list.now d)) }
+        ensures place { place.new
+            ≡ over (core (records_of self.now) claims.now list.now d) place.old }
     {
         let q = claims[usize::from(list[d] / 2)];
         let mut cited = self.needed(marks, q.left, q.right);
@@ -116,11 +123,12 @@ impl Closure<'_> {
 
     /// Writes the label of each term.
     pub(crate) fn write_labels(&self, place: &mut [i64])
-        requires within { length self.now.terms.records.now ≤ length place.old }
-        ensures { place.new ≡ over (row 0 (length self.now.terms.records.now) (λ t. pos (label (log self.now.steps.items) t))) place.old }
+        requires within { length (records_of self.now) ≤ length place.old }
+        ensures { let m = length (records_of self.now) in
+            place.new ≡ over (row 0 m (λ t. pos (label (merged self.now) t))) place.old }
     {
         let k = self.merges();
-        // Tried over the place and the row side by side: the proof did not close.
+        // By number: what an adapter of `iter_mut` wrote would not be known afterwards.
         for t in 0..self.terms.len() {
             place[usize::from(t)] = i64::from(self.label(k, t));
         }

@@ -28,9 +28,13 @@ pub struct Equality<'a> {
     ghost list_claims: { claims_of list ≡ length claims.now },
     ghost merges_room: { length claims.now < vec_capacity merges },
     ghost merges_long: { length merges.items ≡ length (literals_of list) + 1 },
-    ghost rising: { (j k : ℕ) → j ≤ k → k ≤ length (literals_of list) → slice_index merges.items j ≤ slice_index merges.items k },
-    ghost logged: { (k : ℕ) → k ≤ length (literals_of list) → until closure.steps.items (slice_index merges.items k) ≡ log_at closure.terms.records.now claims.now (literals_of list) k },
-    ghost latest: { slice_index merges.items (length (literals_of list)) ≡ length closure.steps.items },
+    ghost rising: { (j k : ℕ) → j ≤ k → k ≤ length (literals_of list)
+        → slice_index merges.items j ≤ slice_index merges.items k },
+    ghost logged: { (k : ℕ) → k ≤ length (literals_of list)
+        → until closure.steps.items (slice_index merges.items k)
+        ≡ log_at closure.terms.records.now claims.now (literals_of list) k },
+    ghost latest: { slice_index merges.items (length (literals_of list))
+        ≡ length closure.steps.items },
     ghost marks_long: { length marks.items ≡ 256 },
     ghost clear: { (k : ℕ) → slice_index_or marks.items k false ≡ false },
 }

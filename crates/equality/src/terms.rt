@@ -50,7 +50,7 @@ impl<'a> Terms<'a> {
         ensures { result.records.now ≡ records.now }
     {
         let mut near = [None; 256];
-        // Tried over the entries with their numbers, and as `array::from_fn`: neither proof closed.
+        // By number: what an adapter of `iter_mut` wrote would not be known afterwards.
         for t in 0..records.len() {
             near[t] = nearest(records, t);
         }

@@ -1,10 +1,9 @@
 -- Lists of literals with no claim twice. Assumes nothing.
-use Rattle.std.proofs.Common.{◌≡◌, ℕ, zero, suc, ◌+◌, ◌*◌, ◌<◌, ◌≤◌, Bool, true, false, cond, not, ◌||◌, eqb, ◌≢◌, List, [], ◌∷◌, ◌++◌, length, get_or, take, drop, sym, refl, ap, ◌∙◌, ⊎_elim, add-one, arith, drop-cons}
-use Rattle.std.proofs.lemmas.Bool.{cases_eq, cond_both, eq-eqb, ne_eqb, and_parts, and_from, not-true, not_from_false, true≢false}
-use Rattle.std.proofs.lemmas.List.{drop_all}
+use Rattle.std.proofs.Common.{◌≡◌, ℕ, zero, suc, ◌+◌, ◌*◌, ◌<◌, ◌≤◌, Bool, true, false, cond, not, ◌||◌, eqb, ◌≢◌, List, [], ◌∷◌, ◌++◌, length, take, sym, refl, ap, ◌∙◌, ⊎_elim, add-one, arith}
+use Rattle.std.proofs.lemmas.Bool.{cases_eq, cond_both, or_left, eq-eqb, ne_eqb, and_parts, and_from, not-true, not_from_false, true≢false}
 use Rattle.std.proofs.lemmas.List.Elements.{All-push, All-take}
 use Rattle.std.proofs.Math.Bool.{or-true}
-use Rattle.std.specs.List.{All}
+use Rattle.std.specs.List.{All, list_any}
 use Rattle.theory.specs.Literals.{claim, complement, has, names, apart, Proper}
 
 -- ---- the claims that a list names
@@ -28,16 +27,13 @@ names_parts x xs l h =
     let ne : claim x ≡ claim l → ⊥ = λ e. true≢false (sym (names_here x xs l e) ∙ h) in
     (ne, sym (names_later x xs l ne) ∙ h)
 
--- a search's steps
-pub names_then : (xs : List ℕ) (i l : ℕ) → i < length xs → claim (get_or xs i 0) ≡ claim l → names (drop i xs) l ≡ true
-names_then xs i l h e = ap (λ ys. names ys l) (drop-cons xs i 0 h) ∙ names_here (get_or xs i 0) (drop (suc i) xs) l e
-
-pub names_else : (xs : List ℕ) (i l : ℕ) → i < length xs → (claim (get_or xs i 0) ≡ claim l → ⊥) → names (drop i xs) l ≡ names (drop (i + 1) xs) l
-names_else xs i l h e =
-    ap (λ ys. names ys l) (drop-cons xs i 0 h) ∙ names_later (get_or xs i 0) (drop (suc i) xs) l e ∙ ap (λ (k : ℕ). names (drop k xs) l) (sym (add-one i))
-
-pub names_end : (xs : List ℕ) (i l : ℕ) → length xs ≤ i → names (drop i xs) l ≡ false
-names_end xs i l h = ap (λ ys. names ys l) (drop_all i xs h)
+-- a list names a literal's claim exactly if some literal of it has that claim
+pub names_any : (xs : List ℕ) (l : ℕ) → names xs l ≡ list_any (λ m. eqb (claim m) (claim l)) xs
+names_any [] l = refl
+names_any (x ∷ xs) l =
+    ⊎_elim (λ (e : claim x ≡ claim l). names_here x xs l e ∙ sym (or_left _ _ (eq-eqb (claim x) (claim l) e)))
+    (λ (f : claim x ≡ claim l → ⊥). names_later x xs l f ∙ names_any xs l ∙ sym (ap (λ b. b || list_any (λ m. eqb (claim m) (claim l)) xs) (ne_eqb (claim x) (claim l) f)))
+    (cases_eq (claim x) (claim l))
 
 -- two literals of one claim are named alike
 pub names_same : (xs : List ℕ) (x y : ℕ) → claim x ≡ claim y → names xs x ≡ false → names xs y ≡ false

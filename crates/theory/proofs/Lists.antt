@@ -25,6 +25,10 @@ pub record Taken (n : ℕ) (ls more : List ℕ) (l : ℕ) : Type 0 where
   pub proper : Proper n more
   pub room : length ls < n
 
+-- the literals are of claims that there are, and no claim comes twice
+pub proper_of : (a : Asserted) → Proper (claims_of a) (literals_of a)
+proper_of a = a.proper
+
 pub taken : (a b : Asserted) (l : ℕ) → claims_of b ≡ claims_of a → Ok tt ≡ assert_says (claims_of a) (literals_of a) l
     → literals_of b ≡ assert_leaves (claims_of a) (literals_of a) l → Taken (claims_of a) (literals_of a) (literals_of b) l
 taken a b l same says e =

@@ -1,11 +1,11 @@
 -- What each call of a theory answers, and what it leaves. Assumes nothing.
-use Rattle.std.specs.Prelude.{ℕ, ◌*◌, cond, List, [], ◌∷◌, ◌++◌, length, take, drop, ℤ, Ok, Err, Result, nat_lt}
+use Rattle.std.specs.Prelude.{ℕ, ◌*◌, if◌then◌else◌, List, [], ◌∷◌, ◌++◌, length, take, drop, ℤ, Ok, Err, Result, nat_lt}
 use Rattle.theory.specs.declared.refusal.Refusal.{Refusal}
 use Rattle.theory.specs.declared.refusal.Refusal.TheVariants.{NoSuchLiteral, ClaimOnList, AboveLength, ShortCorePlace, ShortFitPlace, ListImpossible}
 use Rattle.theory.specs.declared.refusal.Found.{Found}
 use Rattle.theory.specs.declared.refusal.Found.TheVariants.{Possible, Impossible}
 use Rattle.theory.specs.Literals.{names}
-use Rattle.theory.specs.Meaning.{Meaning, Answer, possible, impossible}
+use Rattle.theory.specs.Meaning.{Answer, possible, impossible}
 
 -- what a caller is told: a value, or why the call is refused
 abbrev pub Told : Type 0 → Type 0
@@ -17,21 +17,26 @@ over xs place = xs ++ drop (length xs) place
 
 -- ---- Assert, where there are `n` claims
 
+-- a literal is taken if there is a claim that has it, and that claim is not on the list; any other is refused
+abbrev pub asserting : {V : Type 0} → ℕ → List ℕ → ℕ → (Refusal → V) → V → V
+asserting n ls l refused taken =
+    if nat_lt l (2 * n) then (if names ls l then refused ClaimOnList else taken) else refused NoSuchLiteral
+
 abbrev pub assert_says : ℕ → List ℕ → ℕ → Told (Unit {0})
-assert_says n ls l = cond (nat_lt l (2 * n)) (cond (names ls l) (Err ClaimOnList) (Ok tt)) (Err NoSuchLiteral)
+assert_says n ls l = asserting n ls l Err (Ok tt)
 
 abbrev pub assert_leaves : ℕ → List ℕ → ℕ → List ℕ
-assert_leaves n ls l = cond (nat_lt l (2 * n)) (cond (names ls l) ls (ls ++ l ∷ [])) ls
+assert_leaves n ls l = asserting n ls l (λ r. ls) (ls ++ l ∷ [])
 
 -- ---- Take back
 
 abbrev pub take_back_says : List ℕ → ℕ → Told (Unit {0})
-take_back_says ls k = cond (nat_lt (length ls) k) (Err AboveLength) (Ok tt)
+take_back_says ls k = if nat_lt (length ls) k then Err AboveLength else Ok tt
 
 abbrev pub take_back_leaves : List ℕ → ℕ → List ℕ
-take_back_leaves ls k = cond (nat_lt (length ls) k) ls (take k ls)
+take_back_leaves ls k = if nat_lt (length ls) k then ls else take k ls
 
--- ---- Query
+-- ---- Query, where there are `n` claims and the list is answered `a`
 
 abbrev pub told : Answer → Found
 told possible = Possible
@@ -41,13 +46,13 @@ abbrev pub core_over : Answer → List ℕ → List ℕ
 core_over possible place = place
 core_over (impossible core) place = over core place
 
-abbrev pub query_says : Meaning → List ℕ → List ℕ → Told Found
-query_says M ls place = cond (nat_lt (length place) M.claims) (Err ShortCorePlace) (Ok (told (M.answer ls)))
+abbrev pub query_says : ℕ → Answer → List ℕ → Told Found
+query_says n a place = if nat_lt (length place) n then Err ShortCorePlace else Ok (told a)
 
-abbrev pub query_leaves : Meaning → List ℕ → List ℕ → List ℕ
-query_leaves M ls place = cond (nat_lt (length place) M.claims) place (core_over (M.answer ls) place)
+abbrev pub query_leaves : ℕ → Answer → List ℕ → List ℕ
+query_leaves n a place = if nat_lt (length place) n then place else core_over a place
 
--- ---- Write
+-- ---- Write, where there are `m` terms and the list is answered `a`
 
 abbrev pub fit_says : Answer → Told (Unit {0})
 fit_says possible = Ok tt
@@ -57,8 +62,8 @@ abbrev pub fit_over : Answer → List ℤ → List ℤ → List ℤ
 fit_over possible fit place = over fit place
 fit_over (impossible core) fit place = place
 
-abbrev pub write_says : Meaning → List ℕ → List ℤ → Told (Unit {0})
-write_says M ls place = cond (nat_lt (length place) M.terms) (Err ShortFitPlace) (fit_says (M.answer ls))
+abbrev pub write_says : ℕ → Answer → List ℤ → Told (Unit {0})
+write_says m a place = if nat_lt (length place) m then Err ShortFitPlace else fit_says a
 
-abbrev pub write_leaves : Meaning → List ℕ → List ℤ → List ℤ
-write_leaves M ls place = cond (nat_lt (length place) M.terms) place (fit_over (M.answer ls) (M.written ls) place)
+abbrev pub write_leaves : ℕ → Answer → List ℤ → List ℤ → List ℤ
+write_leaves m a fit place = if nat_lt (length place) m then place else fit_over a fit place

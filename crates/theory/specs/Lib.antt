@@ -1,6 +1,7 @@
 pub mod Literals
 pub mod Terms
 pub mod Meaning
+pub mod Members
 pub mod Refusals
 pub mod Calls
 pub mod Positions

@@ -19,6 +19,18 @@ pub record Meaning : Type 1 where
   pub answer : List ℕ → Answer
   pub written : List ℕ → List ℤ
 
+-- a meaning, put together from what a theory has for each shape
+abbrev pub assembled : {S : Type 0} → (S → ℕ) → (S → ℕ) → (S → List ℤ → Type 0) → (S → ℕ → List ℤ → Type 0)
+    → (S → List ℕ → Answer) → (S → List ℕ → List ℤ) → S → Meaning
+assembled claims terms fits holds answer written s = record {
+  claims = claims s;
+  terms = terms s;
+  Admits = fits s;
+  Holds = holds s;
+  answer = answer s;
+  written = written s;
+}
+
 -- the number of a term, in a list of numbers
 abbrev pub num : List ℤ → ℕ → ℤ
 num v t = slice_index_or v t (pos 0)
@@ -37,14 +49,19 @@ pub record Lawful (M : Meaning) : Type 0 where
   pub few_claims : M.claims ≤ 128
   pub few_terms : M.terms ≤ 256
   -- in each fit exactly one of a literal and its complement holds
-  pub one_holds : (v : List ℤ) → Fit M v → (l : ℕ) → l < 2 * M.claims → M.Holds l v ⊎ M.Holds (complement l) v
-  pub not_both : (v : List ℤ) → Fit M v → (l : ℕ) → l < 2 * M.claims → M.Holds l v → M.Holds (complement l) v → ⊥
+  pub one_holds : (v : List ℤ) → Fit M v → (l : ℕ) → l < 2 * M.claims
+      → M.Holds l v ⊎ M.Holds (complement l) v
+  pub not_both : (v : List ℤ) → Fit M v → (l : ℕ) → l < 2 * M.claims
+      → M.Holds l v → M.Holds (complement l) v → ⊥
   -- where the answer is possible, a fit is written in which every literal of the list holds
   pub possible_fit : (ls : List ℕ) → Proper M.claims ls → M.answer ls ≡ possible → Fit M (M.written ls)
-  pub possible_holds : (ls : List ℕ) → Proper M.claims ls → M.answer ls ≡ possible → All (λ l. M.Holds l (M.written ls)) ls
+  pub possible_holds : (ls : List ℕ) → Proper M.claims ls → M.answer ls ≡ possible
+      → All (λ l. M.Holds l (M.written ls)) ls
   -- where it is impossible, the core's literals hold together in no fit
-  pub core_rises : (ls core : List ℕ) → Proper M.claims ls → M.answer ls ≡ impossible core → Rising (length ls) core
-  pub core_fails : (ls core : List ℕ) → Proper M.claims ls → M.answer ls ≡ impossible core → (v : List ℤ) → Fit M v → All (λ p. M.Holds (slice_index ls p) v) core → ⊥
+  pub core_rises : (ls core : List ℕ) → Proper M.claims ls → M.answer ls ≡ impossible core
+      → Rising (length ls) core
+  pub core_fails : (ls core : List ℕ) → Proper M.claims ls → M.answer ls ≡ impossible core
+      → (v : List ℤ) → Fit M v → All (λ p. M.Holds (slice_index ls p) v) core → ⊥
 
 -- some fit makes every literal of a list hold
 abbrev pub Together : Meaning → List ℕ → Type 0

@@ -1,5 +1,5 @@
 -- Rows of positions. Assumes nothing.
-use Rattle.std.specs.Prelude.{ℕ, zero, suc, ◌+◌, Bool, true, false, cond, List, [], ◌∷◌, length, Ok, Err, nat_lt, slice_index_or}
+use Rattle.std.specs.Prelude.{ℕ, zero, suc, ◌+◌, Bool, true, false, if◌then◌else◌, List, [], ◌∷◌, length, Ok, Err, nat_lt, slice_index_or}
 use Rattle.theory.specs.declared.refusal.Refusal.TheVariants.{PastLimit, ShortCorePlace}
 use Rattle.theory.specs.Calls.{Told, over}
 
@@ -19,10 +19,10 @@ marked marks = listed 0 (length marks) (λ p. slice_index_or marks p false)
 -- putting them down, of at most 128 marks, into a place for as many numbers
 abbrev pub marks_say : List Bool → List ℕ → Told ℕ
 marks_say marks place =
-    cond (nat_lt 128 (length marks)) (Err PastLimit)
-    (cond (nat_lt (length place) (length marks)) (Err ShortCorePlace) (Ok (length (marked marks))))
+    if nat_lt 128 (length marks) then Err PastLimit
+    else (if nat_lt (length place) (length marks) then Err ShortCorePlace else Ok (length (marked marks)))
 
 abbrev pub marks_leave : List Bool → List ℕ → List ℕ
 marks_leave marks place =
-    cond (nat_lt 128 (length marks)) place
-    (cond (nat_lt (length place) (length marks)) place (over (marked marks) place))
+    if nat_lt 128 (length marks) then place
+    else (if nat_lt (length place) (length marks) then place else over (marked marks) place)

@@ -1,20 +1,22 @@
 -- What a trial answers, and what a query under a trial does. Assumes nothing.
-use Rattle.std.specs.Prelude.{ℕ, ◌*◌, cond, List, [], ◌∷◌, ◌++◌, length, Ok, Err, nat_lt}
+use Rattle.std.specs.Prelude.{ℕ, List, [], ◌∷◌, ◌++◌, length, Ok, Err}
 use Rattle.theory.specs.declared.refusal.Found.{Found}
-use Rattle.theory.specs.declared.refusal.Refusal.TheVariants.{NoSuchLiteral, ClaimOnList}
 use Rattle.theory.specs.declared.trial.Trial.{Trial}
-use Rattle.theory.specs.Literals.{names}
-use Rattle.theory.specs.Meaning.{Meaning}
-use Rattle.theory.specs.Calls.{Told, query_says, query_leaves}
+use Rattle.theory.specs.Meaning.{Answer}
+use Rattle.theory.specs.Calls.{Told, asserting, query_says, query_leaves}
 
--- a duty that knows the length of the list before the trial
-abbrev pub trial_says : Meaning → List ℕ → ℕ → Told Trial
-trial_says M ls l = cond (nat_lt l (2 * M.claims)) (cond (names ls l) (Err ClaimOnList) (Ok (record { len = length ls }))) (Err NoSuchLiteral)
+-- how long the list was before the trial
+abbrev pub length_before : Trial → ℕ
+length_before t = t.len
 
-abbrev pub trial_query_says : Meaning → List ℕ → ℕ → List ℕ → Told Found
-trial_query_says M ls l place =
-    cond (nat_lt l (2 * M.claims)) (cond (names ls l) (Err ClaimOnList) (query_says M (ls ++ l ∷ []) place)) (Err NoSuchLiteral)
+-- ---- where there are `n` claims
 
-abbrev pub trial_query_leaves : Meaning → List ℕ → ℕ → List ℕ → List ℕ
-trial_query_leaves M ls l place =
-    cond (nat_lt l (2 * M.claims)) (cond (names ls l) place (query_leaves M (ls ++ l ∷ []) place)) place
+-- a duty that knows how long the list was
+abbrev pub trial_says : ℕ → List ℕ → ℕ → Told Trial
+trial_says n ls l = asserting n ls l Err (Ok (record { len = length ls }))
+
+abbrev pub trial_query_says : ℕ → (List ℕ → Answer) → List ℕ → ℕ → List ℕ → Told Found
+trial_query_says n answer ls l place = asserting n ls l Err (query_says n (answer (ls ++ l ∷ [])) place)
+
+abbrev pub trial_query_leaves : ℕ → (List ℕ → Answer) → List ℕ → ℕ → List ℕ → List ℕ
+trial_query_leaves n answer ls l place = asserting n ls l (λ r. place) (query_leaves n (answer (ls ++ l ∷ [])) place)

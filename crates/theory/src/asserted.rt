@@ -40,7 +40,8 @@ impl Asserted {
     pub fn push(&mut self, l: Literal) -> Result<(), Refusal>
         ensures claims { claims_of self.new ≡ claims_of self.old }
         ensures says { result ≡ assert_says (claims_of self.old) (literals_of self.old) l }
-        ensures list { literals_of self.new ≡ assert_leaves (claims_of self.old) (literals_of self.old) l }
+        ensures list { literals_of self.new
+            ≡ assert_leaves (claims_of self.old) (literals_of self.old) l }
     {
         if usize::from(l / 2) >= self.claims {
             return Err(Refusal::NoSuchLiteral);

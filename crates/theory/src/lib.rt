@@ -2,6 +2,7 @@
 #![tactic(auto)]
 
 pub mod asserted;
+pub mod law;
 pub mod literal;
 pub mod marks;
 pub mod refusal;
@@ -10,9 +11,10 @@ pub mod theory;
 pub mod trial;
 
 pub use asserted::Asserted;
+pub use law::answers_stand;
 pub use literal::Literal;
 pub use marks::list_marks;
 pub use refusal::{Found, Refusal, Unmade};
 pub use term::Term;
-pub use theory::{Theory, answers_stand};
+pub use theory::Theory;
 pub use trial::Trial;

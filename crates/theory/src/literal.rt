@@ -17,11 +17,5 @@ pub fn complement_of(l: Literal) -> Literal
 pub fn names(list: &[Literal], l: Literal) -> bool
     ensures { result ≡ names list.now l }
 {
-    // Tried as `any`: the proof did not close.
-    for m in list {
-        if *m / 2 == l / 2 {
-            return true;
-        }
-    }
-    false
+    list.iter().any(|m| *m / 2 == l / 2)
 }

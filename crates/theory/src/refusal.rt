@@ -70,7 +70,8 @@ impl fmt::Display for Refusal {
 }
 
 /// Why a theory was not made: a listed refusal, or want of memory, which has no number.
-// No generic type for this and other errors with want of memory: their cases have names of their own.
+// No generic type for this and other errors with want of memory: their cases have names of their
+// own.
 #[derive(Clone, Copy, PartialEq, Eq, Debug)]
 pub enum Unmade {
     Refused(Refusal),

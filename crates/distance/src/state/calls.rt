@@ -2,12 +2,12 @@
 ghost use Rattle.std.specs.Prelude.{◌≡◌, ℕ, ◌<◌, List, length};
 ghost use Rattle.std.proofs.Common.{subst};
 ghost use Rattle.theory.specs.Literals.{claim, Proper};
-ghost use Rattle.theory.specs.Asserted.{literals_of};
+ghost use Rattle.theory.proofs.Lists.{proper_of};
 ghost use Rattle.difference.specs.declared.bound.Bound.{Bound};
 ghost use Rattle.difference.specs.Distance.{bound_of, distances};
 ghost use Rattle.difference.specs.Depth.{InRange};
 ghost use Rattle.difference.proofs.Law.{stands};
-ghost use Rattle.distance.specs.Table.{terms_of};
+ghost use Rattle.distance.specs.State.{term_count, claims_of, list_of};
 
 use crate::state::Distance;
 use difference::Bound;
@@ -33,15 +33,26 @@ fn bound_of(claims: &[Bound], l: Literal) -> Bound
 impl<'a> Theory for Distance<'a> {
     ghost Shape = { ℕ × List Bound };
 
-    ghost shape_of = { λ d. (terms_of d.table, d.claims.now) };
+    ghost shape_of = { λ d. (term_count d, claims_of d) };
 
-    ghost means = { λ s. distances s.0 s.1 };
+    ghost claims = { λ s. (distances s.0 s.1).claims };
 
-    ghost asserted = { λ d. literals_of d.list };
+    ghost terms = { λ s. (distances s.0 s.1).terms };
 
-    ghost lawful = { λ d. (stands (terms_of d.table) d.claims.now d.table.work.bounds.few_terms d.few d.named).law };
+    ghost fits = { λ s. (distances s.0 s.1).Admits };
 
-    ghost proper = { λ d. subst (λ n. Proper n (literals_of d.list)) d.list_claims d.list.proper };
+    ghost holds = { λ s. (distances s.0 s.1).Holds };
+
+    ghost answer = { λ s. (distances s.0 s.1).answer };
+
+    ghost written = { λ s. (distances s.0 s.1).written };
+
+    ghost asserted = { list_of };
+
+    ghost lawful = { λ d. let x = d.table.work.bounds in
+        (stands (term_count d) (claims_of d) x.few_terms d.few d.named).law };
+
+    ghost proper = { λ d. subst (λ n. Proper n (list_of d)) d.list_claims (proper_of d.list) };
 
     fn claims(&self) -> usize {
         self.claims.len()

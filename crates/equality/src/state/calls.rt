@@ -2,11 +2,12 @@
 ghost use Rattle.std.specs.Prelude.{List};
 ghost use Rattle.std.proofs.Common.{subst};
 ghost use Rattle.theory.specs.Literals.{Proper};
-ghost use Rattle.theory.specs.Asserted.{literals_of};
 ghost use Rattle.theory.specs.declared.term.Term.{Term};
+ghost use Rattle.theory.proofs.Lists.{proper_of};
 ghost use Rattle.congruence.specs.declared.claim.Claim.{Claim};
 ghost use Rattle.congruence.specs.Equality.{equality};
 ghost use Rattle.congruence.proofs.Law.{stands};
+ghost use Rattle.equality.specs.State.{terms_of, claims_of, list_of};
 
 use crate::state::Equality;
 use theory::{Found, Literal, Refusal, Theory};
@@ -14,15 +15,26 @@ use theory::{Found, Literal, Refusal, Theory};
 impl<'a> Theory for Equality<'a> {
     ghost Shape = { List Term × List Claim };
 
-    ghost shape_of = { λ t. (t.closure.terms.records.now, t.claims.now) };
+    ghost shape_of = { λ t. (terms_of t, claims_of t) };
 
-    ghost means = { λ s. equality s.0 s.1 };
+    ghost claims = { λ s. (equality s.0 s.1).claims };
 
-    ghost asserted = { λ t. literals_of t.list };
+    ghost terms = { λ s. (equality s.0 s.1).terms };
 
-    ghost lawful = { λ t. (stands t.closure.terms.records.now t.claims.now t.closure.terms.few t.closure.terms.lower t.few t.named).law };
+    ghost fits = { λ s. (equality s.0 s.1).Admits };
 
-    ghost proper = { λ t. subst (λ n. Proper n (literals_of t.list)) t.list_claims t.list.proper };
+    ghost holds = { λ s. (equality s.0 s.1).Holds };
+
+    ghost answer = { λ s. (equality s.0 s.1).answer };
+
+    ghost written = { λ s. (equality s.0 s.1).written };
+
+    ghost asserted = { list_of };
+
+    ghost lawful = { λ t. let x = t.closure.terms in
+        (stands (terms_of t) (claims_of t) x.few x.lower t.few t.named).law };
+
+    ghost proper = { λ t. subst (λ n. Proper n (list_of t)) t.list_claims (proper_of t.list) };
 
     fn claims(&self) -> usize {
         self.claims.len()

@@ -1,15 +1,14 @@
-use Rattle.std.proofs.Common.{sym, refl, ◌∙◌}
-use Rattle.theory.proofs.Claims.{names_then, names_else, names_end}
+use Rattle.std.proofs.Common.{rules, ◌≡◌, ◌∙◌, ℕ, true, eqb, Any, sym}
+use Rattle.std.specs.Bool.{Decides, one_answer}
+use Rattle.std.specs.List.{list_any}
+use Rattle.std.proofs.lemmas.List.Folds.{Any-from_list_any, list_any-from_Any}
+use Rattle.theory.specs.Literals.{claim}
+use Rattle.theory.proofs.Claims.{names_any}
 use Rattle.theory.proofs.literal.names.Goals as goal
 
-pub loop-m-init : goal.loop-m-init
-loop-m-init c = refl
-
-pub returns-then-m-l : goal.returns-then-m-l
-returns-then-m-l c = sym (c.loop-m.invariant ∙ names_then c.args.list.now c.loop-m.m-index c.args.l c.loop-m-test.true c.if-m-l.true)
-
-pub loop-m-preserved : goal.loop-m-preserved
-loop-m-preserved c = c.loop-m.invariant ∙ names_else c.args.list.now c.loop-m.m-index c.args.l c.loop-m-test.true c.if-m-l.false
-
 pub returns : goal.returns
-returns c = sym (c.loop-m.invariant ∙ names_end c.args.list.now c.loop-m.m-index c.args.l c.loop-m-test.false)
+returns c =
+    let p = λ (m : ℕ). eqb (claim m) (claim c.args.l) in
+    let xs = c.args.list.now in
+    let found : Decides c.any.result (Any (λ m. p m ≡ true) xs) = search rules in
+    one_answer c.any.result (list_any p xs) found (Any-from_list_any p xs, list_any-from_Any p xs) ∙ sym (names_any xs c.args.l)
