@@ -4,8 +4,12 @@ pub mod Views
 pub mod Clauses
 pub mod Accepted
 pub mod Invariant
-pub mod Reached
+pub mod Words
+pub mod Finding
+pub mod Moving
+pub mod Judging
 pub mod Weight
+pub mod Reached
 pub mod Progress
 pub mod Histories
 pub mod SampleBooks

@@ -1,8 +1,8 @@
 -- What lists of numbers have, and which tests their numbers pass. Assumes nothing.
-use Rattle.std.proofs.Common.{◌≡◌, ℕ, zero, suc, ◌<◌, ◌≤◌, Bool, true, false, not, ◌||◌, eqb, ◌≢◌, ◌⊎◌, List, [], ◌∷◌, ◌++◌, length, slice_index, filter, inl, inr, refl, sym, ap, ◌∙◌, subst, ⊎_elim, arith}
+use Rattle.std.proofs.Common.{◌≡◌, ℕ, zero, suc, ◌<◌, ◌≤◌, Bool, true, false, not, ◌||◌, eqb, ◌≢◌, ◌⊎◌, List, [], ◌∷◌, ◌++◌, Some, length, slice_get, slice_index, slice_index_or, filter, inl, inr, refl, sym, ap, ◌∙◌, subst, ⊎_elim, arith}
 use Rattle.std.proofs.lemmas.Bool.{both_ways, cases_Bool, cases_eq, eqb-true, eq-eqb, ne_eqb, or_cases, or_left, or_right, or_parts, and_parts, and_from, and_cases, not_from_false, cond_both}
 use Rattle.std.proofs.Math.Bool.{or_comm, or_assoc}
-use Rattle.std.specs.List.{list_all, list_any}
+use Rattle.std.specs.List.{Contains, list_all, list_any}
 use Rattle.theory.specs.Literals.{has}
 use Rattle.rules.specs.Clauses.{all_below}
 
@@ -28,6 +28,18 @@ has_at [] p h = absurd (omega arith)
 has_at (x ∷ xs) zero h = has_here x xs x refl
 has_at (x ∷ xs) (suc p) h = has_later x xs (slice_index xs p) (has_at xs p (omega arith))
 
+pub contains : (ls : List ℕ) (x : ℕ) → has ls x ≡ true → Contains ls x
+contains [] x h = absurd (both_ways false refl h)
+contains (y ∷ ys) x h = ⊎_elim (λ (e : y ≡ x). (0, omega arith, e)) (λ j. let r = contains ys x j in (suc r.0, omega (arith, r.1), r.2)) (has_cases y ys x h)
+
+contained_at : (ls : List ℕ) (k x : ℕ) → k < length ls → slice_index_or ls k x ≡ x → has ls x ≡ true
+contained_at [] k x l e = absurd (omega arith)
+contained_at (y ∷ ys) zero x l e = has_here y ys x e
+contained_at (y ∷ ys) (suc k) x l e = has_later y ys x (contained_at ys k x (omega arith) e)
+
+pub contained : (ls : List ℕ) (x : ℕ) → Contains ls x → has ls x ≡ true
+contained ls x c = contained_at ls c.0 x c.1 c.2
+
 -- ---- tests of what a list has
 
 pub list_all_has : (test : ℕ → Bool) (xs : List ℕ) (x : ℕ) → list_all test xs ≡ true → has xs x ≡ true → test x ≡ true
@@ -52,6 +64,12 @@ list_any_not test [] h x i = absurd (both_ways false refl i)
 list_any_not test (y ∷ ys) h x i =
     let b = or_parts (test y) (list_any test ys) h in
     ⊎_elim (λ (e : y ≡ x). subst (λ z. test z ≡ false) e b.0) (λ j. list_any_not test ys b.1 x j) (has_cases y ys x i)
+
+-- a clause that fails a test
+pub failing : (test : List ℕ → Bool) (cs : List (List ℕ)) → list_all test cs ≡ false → (c : ℕ) × (c < length cs) × (R : List ℕ) × (slice_get cs c ≡ Some R) × (test R ≡ false)
+failing test [] h = absurd (both_ways true h refl)
+failing test (x ∷ xs) h =
+    ⊎_elim (λ q. (0, omega arith, x, refl, q)) (λ q. let r = failing test xs q in (suc r.0, omega (arith, r.1), r.2, r.3, r.4)) (and_cases (test x) (list_all test xs) h)
 
 -- ---- tests of the numbers below a limit
 

@@ -8,7 +8,9 @@ use Rattle.rules.specs.declared.step.Verdict.{Verdict}
 use Rattle.rules.specs.declared.step.Verdict.TheVariants as verdict
 use Rattle.rules.specs.declared.refusal.Refusal.{Refusal}
 use Rattle.rules.specs.declared.refusal.Refusal.TheVariants.{NoConflict, NotOneAbove, TrailImpossible, TrailPossible}
-use Rattle.rules.specs.Rules.{State, opened, blame, is_possible, conflicting, ending, demand, given, Outcome, judge, says, leaves, run, answers}
+use Rattle.rules.specs.States.{State, opened, Outcome, says, leaves}
+use Rattle.rules.specs.Rules.{blame, is_possible, conflicting, ending, demand, given, judge}
+use Rattle.rules.specs.Runs.{run, answers}
 use Rattle.rules.specs.Samples.{Gives, Blank, Learning, Clashing, Samples}
 
 -- a theory with its numbers of claims and terms written out, so that the steps compute

@@ -1,19 +1,22 @@
 -- Trails in order: literals of the theory's claims, no claim twice, and each literal with a reason follows from those
 -- before it. Assumes nothing.
-use Rattle.std.proofs.Common.{◌≡◌, ℕ, zero, suc, ◌*◌, ◌<◌, ◌≤◌, true, false, not, ◌||◌, eqb, ◌≢◌, ◌⊎◌, List, [], ◌∷◌, ◌++◌, map, length, slice_index, ℤ, Option, Some, inl, inr, refl, sym, ap, ap₂, ◌∙◌, subst, ⊎_elim, arith}
-use Rattle.std.proofs.lemmas.Bool.{both_ways, and_parts, or_parts, not-true, eqb-false}
-use Rattle.std.proofs.lemmas.List.{get_or_push, length_push, take_at}
+use Rattle.std.proofs.Common.{◌≡◌, ℕ, suc, ◌*◌, ◌<◌, ◌≤◌, true, false, not, ◌||◌, eqb, ◌≢◌, ◌⊎◌, List, [], ◌∷◌, ◌++◌, map, length, slice_index, ℤ, Option, None, Some, is_some, inl, inr, refl, sym, ap, ap₂, ◌∙◌, subst, ⊎_elim, arith}
+use Rattle.std.proofs.lemmas.Bool.{both_ways, and_parts, or_parts, not-true, eqb-false, true_from_ne_false}
+use Rattle.std.proofs.lemmas.List.{get_or_append_left, get_or_push, length_push, take_at}
+use Rattle.std.proofs.lemmas.List.Elements.{All-cons}
 use Rattle.std.proofs.Math.Bool.{or_comm}
 use Rattle.std.specs.List.{All}
 use Rattle.theory.specs.Literals.{complement, has, names, apart, Proper}
 use Rattle.theory.specs.Meaning.{Answer, possible, impossible, Meaning, Lawful, Fit}
 use Rattle.theory.proofs.Answers.{rising_below}
 use Rattle.theory.proofs.Claims.{names_later, proper_push, proper_take, proper_few}
-use Rattle.rules.specs.declared.entry.Reason.TheVariants.{Decided}
+use Rattle.rules.specs.declared.entry.Reason.{Reason}
+use Rattle.rules.specs.declared.entry.Reason.TheVariants.{Decided, Clause, Theory}
 use Rattle.rules.specs.declared.entry.Entry.{Entry}
 use Rattle.rules.specs.Clauses.{Keeps}
-use Rattle.rules.specs.Rules.{literals, asserted, false_on, blame, theory_blames, explained}
-use Rattle.rules.proofs.Lists.{has_here, has_later, has_cases, has_push, has_at}
+use Rattle.rules.specs.States.{literals, asserted}
+use Rattle.rules.specs.Rules.{false_on, blame, theory_blames, explained}
+use Rattle.rules.proofs.Lists.{contains, contained, has_here, has_later, has_cases, has_push, has_at}
 
 -- ---- literals
 
@@ -83,16 +86,49 @@ proper_length n t p = omega (arith, asserted_length t, proper_few n (asserted t)
 
 -- ---- trails in order
 
--- an entry that follows has a clause, of which each other literal is false on the trail before it
-pub record Explained (M : Meaning) (clause_at : ℕ → Option (List ℕ)) (e : Entry) (t : List Entry) : Type 0 where
+-- an entry that follows has a clause with its literal, of which each other literal is false on the trail before it
+pub record Grounds (e : Entry) (t : List Entry) (R : List ℕ) : Type 0 where
+  pub own : has R e.literal ≡ true
+  pub others : (m : ℕ) → has R m ≡ true → m ≢ e.literal → false_on t m ≡ true
+
+pub record Grounded (M : Meaning) (clause_at : ℕ → Option (List ℕ)) (e : Entry) (t : List Entry) : Type 0 where
   pub by : List ℕ
   pub is : explained (theory_blames M) clause_at e.reason e.literal t ≡ Some by
-  pub others : (m : ℕ) → has by m ≡ true → m ≢ e.literal → false_on t m ≡ true
+  pub grounds : Grounds e t by
 
+-- the same said without a choice, so that it is a proposition
 pub record SoundEntry (M : Meaning) (clause_at : ℕ → Option (List ℕ)) (e : Entry) (t : List Entry) : Type 0 where
   pub below : e.literal < 2 * M.claims
   pub fresh : names (literals t) e.literal ≡ false
-  pub ground : (e.reason ≡ Decided) ⊎ Explained M clause_at e t
+  pub follows : e.reason ≢ Decided → is_some (explained (theory_blames M) clause_at e.reason e.literal t) ≡ true
+  pub grounds : (R : List ℕ) → explained (theory_blames M) clause_at e.reason e.literal t ≡ Some R → Grounds e t R
+
+module _ (M : Meaning) (clause_at : ℕ → Option (List ℕ)) (e : Entry) (t : List Entry) where
+  abbrev clause_of : Option (List ℕ)
+  clause_of = explained (theory_blames M) clause_at e.reason e.literal t
+
+  pub sound_entry : e.literal < 2 * M.claims → names (literals t) e.literal ≡ false → (e.reason ≡ Decided) ⊎ Grounded M clause_at e t → SoundEntry M clause_at e t
+  sound_entry b f (inl d) =
+      let none : clause_of ≡ None = ap (λ r. explained (theory_blames M) clause_at r e.literal t) d in
+      record { below = b; fresh = f; follows = λ n. absurd (n d); grounds = λ R q. absurd (cc) }
+  sound_entry b f (inr x) = record {
+    below = b;
+    fresh = f;
+    follows = λ n. ap is_some x.is;
+    grounds = λ R q. let y : x.by ≡ R = cc (x.is) in subst (Grounds e t) y x.grounds;
+  }
+
+  pub ground : SoundEntry M clause_at e t → (e.reason ≡ Decided) ⊎ Grounded M clause_at e t
+  ground k = go e.reason refl
+    where
+      some : (o : Option (List ℕ)) → clause_of ≡ o → is_some o ≡ true → Grounded M clause_at e t
+      some None q h = absurd (both_ways false refl h)
+      some (Some R) q h = record { by = R; is = q; grounds = k.grounds R q }
+
+      go : (r : Reason) → e.reason ≡ r → (e.reason ≡ Decided) ⊎ Grounded M clause_at e t
+      go Decided d = inl d
+      go (Clause c) d = inr (some clause_of refl (k.follows (λ n. absurd (cc))))
+      go Theory d = inr (some clause_of refl (k.follows (λ n. absurd (cc))))
 
 abbrev pub SoundTrail : Meaning → (ℕ → Option (List ℕ)) → List Entry → Type 0
 SoundTrail M clause_at [] = Unit {0}
@@ -142,6 +178,16 @@ blamed_has ls (p ∷ ps) m a i =
     (λ j. blamed_has ls ps m (λ k d h. a (suc k) d (omega (arith, h))) j)
     (has_cases (complement (slice_index ls p)) (map (λ p. complement (slice_index ls p)) ps) m i)
 
+-- The law of the theory, that in a fit exactly one of a literal and its complement holds, is used here alone: a core
+-- gives a
+-- clause by it, and two clauses their resolvent.
+pub record OneOfTwo (A B : Type 0) : Type 0 where
+  pub one : A ⊎ B
+  pub not_both : A → B → ⊥
+
+pub exactly_one : (M : Meaning) → Lawful M → (v : List ℤ) → Fit M v → (l : ℕ) → l < 2 * M.claims → OneOfTwo (M.Holds l v) (M.Holds (complement l) v)
+exactly_one M law v f l h = record { one = law.one_holds v f l h; not_both = law.not_both v f l h }
+
 module _ (M : Meaning) (law : Lawful M) (ls : List ℕ) (proper : Proper M.claims ls) where
   -- in a fit all literals of a core hold, or the complement of one does
   core_cases : (v : List ℤ) → Fit M v → (ps : List ℕ) → All (λ p. p < length ls) ps
@@ -150,16 +196,22 @@ module _ (M : Meaning) (law : Lawful M) (ls : List ℕ) (proper : Proper M.claim
   core_cases v f (p ∷ ps) a =
       ⊎_elim
       (λ (h : M.Holds (slice_index ls p) v).
-      ⊎_elim (λ (hs : All (λ p. M.Holds (slice_index ls p) v) ps). inl (both h hs))
+      ⊎_elim (λ (hs : All (λ p. M.Holds (slice_index ls p) v) ps). inl (All-cons (λ p. M.Holds (slice_index ls p) v) p ps h hs))
       (λ (r : Keeps M v (map (λ p. complement (slice_index ls p)) ps)).
-      inr (r.0, has_later (complement (slice_index ls p)) (map (λ p. complement (slice_index ls p)) ps) r.0 r.1, r.2))
+      inr (
+        r.0,
+        contains (map (λ p. complement (slice_index ls p)) (p ∷ ps)) r.0
+            (has_later (complement (slice_index ls p)) (map (λ p. complement (slice_index ls p)) ps) r.0 (contained (map (λ p. complement (slice_index ls p)) ps) r.0 r.1)),
+        r.2,
+      ))
       (core_cases v f ps (λ k d i. a (suc k) d (omega (arith, i)))))
-      (λ h. inr (complement (slice_index ls p), has_here (complement (slice_index ls p)) (map (λ p. complement (slice_index ls p)) ps) (complement (slice_index ls p)) refl, h))
-      (law.one_holds v f (slice_index ls p) (proper.below p 0 (a 0 0 (omega arith))))
-    where
-      both : M.Holds (slice_index ls p) v → All (λ p. M.Holds (slice_index ls p) v) ps → All (λ p. M.Holds (slice_index ls p) v) (p ∷ ps)
-      both h hs zero d i = h
-      both h hs (suc k) d i = hs k d (omega arith)
+      (λ h. inr (
+        complement (slice_index ls p),
+        contains (map (λ p. complement (slice_index ls p)) (p ∷ ps)) (complement (slice_index ls p))
+            (has_here (complement (slice_index ls p)) (map (λ p. complement (slice_index ls p)) ps) (complement (slice_index ls p)) refl),
+        h,
+      ))
+      (exactly_one M law v f (slice_index ls p) (proper.below p 0 (a 0 0 (omega arith)))).one
 
   -- what is blamed is kept by every fit
   pub blame_kept : (a : Answer) (D : List ℕ) → M.answer ls ≡ a → blame ls a ≡ Some D → (v : List ℤ) → Fit M v → Keeps M v D
@@ -176,3 +228,30 @@ module _ (M : Meaning) (law : Lawful M) (ls : List ℕ) (proper : Proper M.claim
   blame_has (impossible core) D e h m i =
       let is : D ≡ map (λ p. complement (slice_index ls p)) core = cc in
       blamed_has ls core m (rising_below (length ls) core (law.core_rises ls core proper e)) (subst (λ z. has z m ≡ true) is i)
+
+-- where a trail is possible, and not with the complement of `l` too, the theory blames that complement
+module _ (M : Meaning) (law : Lawful M) (t : List Entry) (l : ℕ) (proper : Proper M.claims (asserted t)) (denied : Proper M.claims (asserted t ++ complement l ∷ [])) where
+  abbrev ls : List ℕ
+  ls = asserted t ++ complement l ∷ []
+
+  others_hold : (v : List ℤ) → All (λ m. M.Holds m v) (asserted t) → (ps : List ℕ) → All (λ p. p < length ls) ps
+      → has (map (λ p. complement (slice_index ls p)) ps) l ≡ false → All (λ p. M.Holds (slice_index ls p) v) ps
+  others_hold v hs [] a n = λ k d h. absurd (omega arith)
+  others_hold v hs (p ∷ ps) a n =
+      let b = or_parts (eqb (complement (slice_index ls p)) l) (has (map (λ p. complement (slice_index ls p)) ps) l) n in
+      let in_ls : p < length ls = a 0 0 (omega arith) in
+      let end : slice_index ls (length (asserted t)) ≡ complement l = get_or_push (asserted t) (complement l) 0 (length (asserted t)) refl in
+      let not_end : p ≢ length (asserted t) = λ e. eqb-false (complement (slice_index ls p)) l b.0 (ap (λ (q : ℕ). complement (slice_index ls q)) e ∙ ap complement end ∙ twice l) in
+      let before : p < length (asserted t) = omega (arith, length_push (asserted t) (complement l)) in
+      let same : slice_index ls p ≡ slice_index (asserted t) p = get_or_append_left (asserted t) (complement l ∷ []) 0 p before in
+      All-cons (λ p. M.Holds (slice_index ls p) v) p ps (subst (λ m. M.Holds m v) (sym same) (hs p 0 before))
+      (others_hold v hs ps (λ k d i. a (suc k) d (omega (arith, i))) b.1)
+
+  pub blame_own : M.answer (asserted t) ≡ possible → (a : Answer) (D : List ℕ) → M.answer ls ≡ a → blame ls a ≡ Some D → has D l ≡ true
+  blame_own q possible D e h = cc
+  blame_own q (impossible core) D e h =
+      let is : map (λ p. complement (slice_index ls p)) core ≡ D = cc in
+      let within = rising_below (length ls) core (law.core_rises ls core denied e) in
+      subst (λ z. has z l ≡ true) is (true_from_ne_false (has (map (λ p. complement (slice_index ls p)) core) l)
+      (λ n. law.core_fails ls core denied e (M.written (asserted t)) (law.possible_fit (asserted t) proper q)
+      (others_hold (M.written (asserted t)) (law.possible_holds (asserted t) proper q) core within n)))

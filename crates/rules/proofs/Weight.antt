@@ -9,17 +9,19 @@ use Rattle.theory.specs.Meaning.{Meaning}
 use Rattle.rules.specs.declared.entry.Reason.{Reason}
 use Rattle.rules.specs.declared.entry.Reason.TheVariants.{Decided, Clause, Theory}
 use Rattle.rules.specs.declared.entry.Entry.{Entry}
+use Rattle.rules.specs.declared.step.Step.{Step}
 use Rattle.rules.specs.declared.step.Verdict.{Verdict}
 use Rattle.rules.specs.declared.step.Verdict.TheVariants as verdict
 use Rattle.rules.specs.Clauses.{only}
-use Rattle.rules.specs.Rules.{State, opened, literals, false_on, decisions, level, up_to, above, hit, latest, is_learned, live_in, theory_blames, explained, longer, remains, resolved, conflicting, resolving, jumping, forgetting, ending}
+use Rattle.rules.specs.States.{State, opened, literals, level}
+use Rattle.rules.specs.Rules.{false_on, above, hit, latest, is_learned, live_in, theory_blames, explained, longer, remains, resolved, conflicting, resolving, jumping, forgetting, ending}
 use Rattle.rules.specs.Histories.{most_steps}
 use Rattle.rules.proofs.Lists.{has_cases}
 use Rattle.rules.proofs.Clauses.{set_only}
 use Rattle.rules.proofs.Trails.{twice, not_named, SoundTrail, trail_few}
-use Rattle.rules.proofs.Views.{Latest, here, there, latest_view, latest_before, latest_sound, Cut, stop, more, cut_view, only_view}
+use Rattle.rules.proofs.Views.{Finds, here, there, latest_view, latest_before, latest_sound, Cuts, stop, more, decided_since, cut_above}
 use Rattle.rules.proofs.Accepted.{Accepted, decides, propagates, implies, conflicts, clashes, resolves, jumps, forgets, fits, ends, Going}
-use Rattle.rules.proofs.Invariant.{Sound, remains_cases, learned_number, standing, explained_others}
+use Rattle.rules.proofs.Invariant.{Sound, remains_cases, learned_number}
 
 -- ---- the trail as a number
 
@@ -64,13 +66,8 @@ module _ (n : ℕ) where
   weight_below : (t : List Entry) → length t ≤ n → weight n t + 1 ≤ 3 ^ n
   weight_below t h = omega (arith, all_weight t h, pow_at_least (n - length t))
 
-  decided_since : (r : Reason) (k a : ℕ) → k < decisions r + a → a ≤ k → r ≡ Decided
-  decided_since Decided k a h g = refl
-  decided_since (Clause c) k a h g = absurd (omega arith)
-  decided_since Theory k a h g = absurd (omega arith)
-
   -- what is cut off began with a decided literal: a literal with a reason in its place weighs more than all of it
-  cut_weight : (k : ℕ) {t u r : List Entry} {d : Entry} → Cut k t (d ∷ u) r → length t ≤ n → weight n t + 3 ^ (n - length t) ≤ weight n r + 2 * 3 ^ (n - suc (length r))
+  cut_weight : (k : ℕ) {t u r : List Entry} {d : Entry} → Cuts k t (d ∷ u) r → length t ≤ n → weight n t + 3 ^ (n - length t) ≤ weight n r + 2 * 3 ^ (n - suc (length r))
   unfolding weight digit
   cut_weight k (more {e = e} {t = t} h (stop g)) b =
       let q : e.reason ≡ Decided = decided_since e.reason k (level t) h g in
@@ -78,7 +75,7 @@ module _ (n : ℕ) where
       rw w (omega arith)
   cut_weight k (more {e = e} h (more {e = d} {t = t} g v)) b = omega (arith, one_more e (d ∷ t) b, cut_weight k (more {e = d} g v) (omega arith))
 
-  jump_weight : (k : ℕ) {t u r : List Entry} {d : Entry} → Cut k t (d ∷ u) r → length t ≤ n → (l c : ℕ) → weight n t + 1 ≤ weight n (record { literal = l; reason = Clause c } ∷ r)
+  jump_weight : (k : ℕ) {t u r : List Entry} {d : Entry} → Cuts k t (d ∷ u) r → length t ≤ n → (l c : ℕ) → weight n t + 1 ≤ weight n (record { literal = l; reason = Clause c } ∷ r)
   unfolding weight digit
   jump_weight k {t} v b l c = omega (arith, cut_weight k v b, pow_at_least (n - length t))
 
@@ -98,17 +95,17 @@ top_le C (e ∷ t) = go (hit C e) (top_le C t)
     go true h = omega arith
     go false h = omega arith
 
-latest_top : {C : List ℕ} {t r : List Entry} {e : Entry} → Latest C t e r → top C t ≡ suc (length r)
+latest_top : {C : List ℕ} {t r : List Entry} {e : Entry} → Finds C t e r → top C t ≡ suc (length r)
 unfolding top
 latest_top (here h) = rw h
 latest_top (there h v) = rw h (latest_top v)
 
-latest_shorter : {C : List ℕ} {t r : List Entry} {e : Entry} → Latest C t e r → length r < length t
+latest_shorter : {C : List ℕ} {t r : List Entry} {e : Entry} → Finds C t e r → length r < length t
 latest_shorter (here h) = omega arith
 latest_shorter (there h v) = omega (arith, latest_shorter v)
 
 -- of a clause whose literals are false on the trail before an entry nothing stands higher
-top_before : (M : Meaning) (clause_at : ℕ → Option (List ℕ)) (C D : List ℕ) {t r : List Entry} {e : Entry} → Latest C t e r → SoundTrail M clause_at t
+top_before : (M : Meaning) (clause_at : ℕ → Option (List ℕ)) (C D : List ℕ) {t r : List Entry} {e : Entry} → Finds C t e r → SoundTrail M clause_at t
     → ((m : ℕ) → has D m ≡ true → false_on r m ≡ true) → top D t ≤ length r
 unfolding top
 top_before M clause_at C D (here {e = e} {t = t} h) k f = go (hit D e) refl
@@ -125,7 +122,7 @@ top_before M clause_at C D (there {d = d} {t = t} {r = r} h v) k f = go (hit D d
     go false q z = z
 
 -- a literal of a conflict other than the latest is false before the latest
-latest_rest : (C : List ℕ) {t r : List Entry} {e : Entry} → Latest C t e r → (m : ℕ) → has C m ≡ true → m ≢ complement e.literal → false_on t m ≡ true → false_on r m ≡ true
+latest_rest : (C : List ℕ) {t r : List Entry} {e : Entry} → Finds C t e r → (m : ℕ) → has C m ≡ true → m ≢ complement e.literal → false_on t m ≡ true → false_on r m ≡ true
 latest_rest C (here {e = e} {t = t} h) m i n j =
     ⊎_elim (λ (q : e.literal ≡ complement m). absurd (n (omega arith))) (λ w. w) (has_cases e.literal (literals t) (complement m) j)
 latest_rest C (there {d = d} {e = e} {t = t} h v) m i n j =
@@ -168,7 +165,7 @@ module _ (M : Meaning) (s : State) (S : Sound M s) (B : Budget M.claims s) (goin
   n = M.claims
 
   short : length s.trail ≤ n
-  short = trail_few M (live_in s) s.trail S.trail
+  short = trail_few M (live_in s) s.trail S.facts.trail
 
   unsaid : said s.verdict ≡ 0
   unfolding said
@@ -201,24 +198,19 @@ module _ (M : Meaning) (s : State) (S : Sound M s) (B : Budget M.claims s) (goin
   unfolding slack said
   resolves_paid C R e t q g x =
       let view = latest_view C s.trail (e, t) g in
-      let k = latest_sound C M (live_in s) view S.trail in
+      let k = latest_sound C M (live_in s) view S.facts.trail in
       let before : (m : ℕ) → has (resolved C e.literal R) m ≡ true → false_on t m ≡ true = λ m i.
-      ⊎_elim (λ c. latest_rest C view m c.0 c.1 ((standing M s S C q).falsified m c.0)) (λ c. explained_others M s S e t R x k.0 m c.0 c.1)
+      ⊎_elim (λ c. latest_rest C view m c.0 c.1 ((S.facts.conflict C q).falsified m c.0)) (λ c. (k.0.grounds R x).others m c.0 c.1)
       (remains_cases C e.literal R m (set_only (remains C e.literal R) m i)) in
-      record { paid = omega (arith, disputed C q, latest_top view, latest_shorter view, short, top_before M (live_in s) C (resolved C e.literal R) view S.trail before) }
-
-  not_empty : (u : List Entry) (x : ℕ) → has (literals u) x ≡ true → (d : Entry) × (w : List Entry) × (u ≡ d ∷ w)
-  not_empty [] x i = absurd (both_ways false refl i)
-  not_empty (d ∷ u) x i = (d, u, refl)
+      record { paid = omega (arith, disputed C q, latest_top view, latest_shorter view, short, top_before M (live_in s) C (resolved C e.literal R) view S.facts.trail before) }
 
   jumps_paid : (k c : ℕ) (C : List ℕ) (e : Entry) → s.conflict ≡ Some C → only (filter (hit C) (above k s.trail)) ≡ Some e → is_learned c ≡ true
       → Budget n (jumping s C k c (complement e.literal))
   unfolding slack said one
   jumps_paid k c C e q g b =
       let num = learned_number c b in
-      let r = not_empty (above k s.trail) e.literal (only_view C (above k s.trail) e g).on in
-      let cut : Cut k s.trail (r.0 ∷ r.1) (up_to k s.trail) = subst (λ u. Cut k s.trail u (up_to k s.trail)) r.2 (cut_view k s.trail) in
-      let more = lives_set s.learned (c - 512) (Some C) (omega (arith, S.slots, num.0, num.1)) in
+      let cut = (cut_above k C s.trail e g).2 in
+      let more = lives_set s.learned (c - 512) (Some C) (omega (arith, S.facts.slots, num.0, num.1)) in
       record { paid = omega (arith, disputed C q, more, raise n (weight n s.trail) _ (jump_weight n k cut short (complement e.literal) c)) }
 
   forgets_paid : (c : ℕ) (R : List ℕ) → live_in s c ≡ Some R → is_learned c ≡ true → Budget n (forgetting s c)
@@ -227,23 +219,23 @@ module _ (M : Meaning) (s : State) (S : Sound M s) (B : Budget M.claims s) (goin
       let num = learned_number c b in
       let e : get_or s.learned (c - 512) None ≡ Some R = rw (le-ltb c 512 num.0) at q in
       let was : one (get_or s.learned (c - 512) None) ≡ 1 = ap one e in
-      let less = lives_set s.learned (c - 512) None (omega (arith, S.slots, num.0, num.1)) in
+      let less = lives_set s.learned (c - 512) None (omega (arith, S.facts.slots, num.0, num.1)) in
       record { paid = omega (arith, B.paid, less, unsaid) }
 
   ending_paid : (v : Verdict) → Budget n (ending s v)
   unfolding said
   ending_paid v = record { paid = omega (arith, B.paid, unsaid) }
 
-  pub accepted_paid : {s' : State} → Accepted M s s' → Budget M.claims s'
+  pub accepted_paid : {x : Step} {s' : State} → Accepted M s x s' → Budget M.claims s'
   accepted_paid (decides {l = l} f) = longer_paid f.quiet l Decided
-  accepted_paid (propagates {l = l} {c = c} f q t) = longer_paid f.quiet l (Clause c)
-  accepted_paid (implies {l = l} f w) = longer_paid f.quiet l Theory
+  accepted_paid (propagates {l = l} {c = c} f q h t) = longer_paid f.quiet l (Clause c)
+  accepted_paid (implies {l = l} f p w) = longer_paid f.quiet l Theory
   accepted_paid (conflicts c {R = R} q g t) = conflicting_paid q R
   accepted_paid (clashes {R = R} q g) = conflicting_paid q R
   accepted_paid (resolves {C = C} {R = R} {e = e} {t = t} q g x) = resolves_paid C R e t q g x
   accepted_paid (jumps k c {C = C} {e = e} q g b w) = jumps_paid k c C e q g b
   accepted_paid (forgets c {R = R} g b w) = forgets_paid c R g b
-  accepted_paid (fits q t p) = ending_paid verdict.Fit
+  accepted_paid (fits q h t p z) = ending_paid verdict.Fit
   accepted_paid (ends q) = ending_paid verdict.NoFit
 
 pub opened_paid : (n : ℕ) (book : List (List ℕ)) (allowance : ℕ) → Budget n (opened book allowance)
@@ -268,5 +260,5 @@ bound n w x c h g = omega (arith, mul-le-mul_left (n + 3) h)
 pub paid_bound : (M : Meaning) (s : State) → Sound M s → Budget M.claims s → s.count < most_steps M.claims
 paid_bound M s S B =
     let n : ℕ = M.claims in
-    bound n (weight n s.trail) (3 ^ n) s.count (weight_below n s.trail (trail_few M (live_in s) s.trail S.trail))
+    bound n (weight n s.trail) (3 ^ n) s.count (weight_below n s.trail (trail_few M (live_in s) s.trail S.facts.trail))
     (omega (arith, B.paid, slack_le n s.conflict s.trail, said_le s.verdict))

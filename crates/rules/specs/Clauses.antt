@@ -1,8 +1,8 @@
 -- Clauses: sets of literals. A fit keeps a clause if some literal of it holds in the fit, and a book if it keeps every
 -- clause. Assumes nothing.
-use Rattle.std.specs.Prelude.{◌≡◌, ℕ, zero, suc, ◌≤◌, ◌+◌, Bool, true, ◌&&◌, List, [], ◌∷◌, ◌++◌, length, ℤ, Option, Some, None}
-use Rattle.std.specs.List.{All}
-use Rattle.theory.specs.Literals.{has, Proper}
+use Rattle.std.specs.Prelude.{ℕ, zero, suc, ◌≤◌, ◌+◌, Bool, true, ◌&&◌, List, [], ◌∷◌, ◌++◌, length, ℤ, Option, Some, None}
+use Rattle.std.specs.List.{All, Contains}
+use Rattle.theory.specs.Literals.{Proper}
 use Rattle.theory.specs.Meaning.{Meaning}
 use Rattle.theory.specs.Positions.{listed}
 
@@ -22,7 +22,7 @@ only (x ∷ []) = Some x
 only (x ∷ y ∷ ys) = None
 
 abbrev pub Keeps : Meaning → List ℤ → List ℕ → Type 0
-Keeps M v clause = (l : ℕ) × (has clause l ≡ true) × M.Holds l v
+Keeps M v clause = (l : ℕ) × Contains clause l × M.Holds l v
 
 abbrev pub KeepsAll : Meaning → List ℤ → List (List ℕ) → Type 0
 KeepsAll M v book = All (Keeps M v) book

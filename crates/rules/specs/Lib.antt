@@ -1,5 +1,12 @@
 pub mod Clauses
 pub mod Refusals
+pub mod Kinds
+pub mod States
+pub mod Moves
+pub mod Causes
 pub mod Rules
+pub mod Runs
 pub mod Histories
+pub mod Next
+pub mod Judged
 pub mod Samples

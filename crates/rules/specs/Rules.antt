@@ -1,7 +1,10 @@
--- The rules of a history: ten kinds of step, and for each the checks in their order, with the refusal where one fails.
--- A clause and a conflict are lists of literals; what a step makes is the one list of its set (`set_of`).
--- The trail has its latest entry first. Assumes nothing.
-use Rattle.std.specs.Prelude.{ℕ, ◌+◌, ◌-◌, ◌*◌, Bool, true, false, not, ◌&&◌, ◌||◌, cond, List, [], ◌∷◌, ◌++◌, map, set, replicate, filter, Option, Some, None, is_none, Result, Ok, Err, ◌==◌, nat_lt, nat_le, slice_get, slice_index, slice_index_or}
+-- What the code meets: for each kind of step its checks in their order, and the state after it. A reader of what is
+-- proved need
+-- not read this: `steps_stand` ties it to the rules (Moves) and the table of refusals (Causes), in every state that
+-- some steps
+-- lead to. A clause and a conflict are lists of literals; what a step makes is the one list of its set (`set_of`).
+-- Assumes nothing.
+use Rattle.std.specs.Prelude.{ℕ, ◌-◌, ◌*◌, Bool, true, false, not, ◌&&◌, ◌||◌, if◌then◌else◌, List, [], ◌∷◌, ◌++◌, map, set, filter, Option, Some, None, is_none, Result, Ok, Err, ◌==◌, nat_lt, nat_le, slice_get, slice_index, slice_index_or}
 use Rattle.std.specs.List.{list_all, list_any}
 use Rattle.theory.specs.Literals.{complement, has, names}
 use Rattle.theory.specs.Meaning.{Answer, possible, impossible, Meaning}
@@ -15,33 +18,8 @@ use Rattle.rules.specs.declared.step.Verdict.TheVariants as verdict
 use Rattle.rules.specs.declared.refusal.Refusal.{Refusal}
 use Rattle.rules.specs.declared.refusal.Refusal.TheVariants.{VerdictStands, AllowanceUsed, ConflictStands, NoConflict, NoSuchLiteral, ClaimOnTrail, NotLive, LacksLiteral, NotFalse, ConflictEmpty, LatestDecided, NotOneAbove, ConflictNotEmpty, NumberNotFree, BookClause, IsReason, ClaimOffTrail, ClauseNotTrue, TrailImpossible, TrailPossible, NotImplied, ShortFitPlace}
 use Rattle.rules.specs.Clauses.{set_of, all_below, only}
-
-pub record State : Type 0 where
-  pub book : List (List ℕ)
-  -- 128 places: the clauses with the numbers 512 to 639
-  pub learned : List (Option (List ℕ))
-  pub trail : List Entry
-  pub conflict : Option (List ℕ)
-  pub verdict : Option Verdict
-  pub count : ℕ
-  pub allowance : ℕ
-
--- a new history
-abbrev pub opened : List (List ℕ) → ℕ → State
-opened book allowance =
-    record { book = book; learned = replicate 128 None; trail = []; conflict = None; verdict = None; count = 0; allowance = allowance }
-
--- ---- the trail
-
--- its literals, the latest first
-abbrev pub literals : List Entry → List ℕ
-literals [] = []
-literals (e ∷ t) = e.literal ∷ literals t
-
--- and the oldest first, as the theory has them
-abbrev pub asserted : List Entry → List ℕ
-asserted [] = []
-asserted (e ∷ t) = asserted t ++ e.literal ∷ []
+use Rattle.rules.specs.States.{State, literals, asserted, level, next}
+pub use Rattle.rules.specs.States.{Outcome, says, leaves}
 
 -- a literal is true if it is on the trail, and false if its complement is
 abbrev pub true_on : List Entry → ℕ → Bool
@@ -54,24 +32,14 @@ false_on t l = has (literals t) (complement l)
 abbrev pub false_but : List Entry → ℕ → List ℕ → Bool
 false_but t l R = list_all (λ m. m == l || false_on t m) R
 
-abbrev pub decisions : Reason → ℕ
-decisions Decided = 1
-decisions (Clause c) = 0
-decisions Theory = 0
-
--- the level of the latest entry: the number of decided ones up to and including it
-abbrev pub level : List Entry → ℕ
-level [] = 0
-level (e ∷ t) = decisions e.reason + level t
-
 -- the trail cut before its decided literal number `k` + 1, and what is cut off: the entries of a level above `k`
 abbrev pub up_to : ℕ → List Entry → List Entry
 up_to k [] = []
-up_to k (e ∷ t) = cond (nat_le (level (e ∷ t)) k) (e ∷ t) (up_to k t)
+up_to k (e ∷ t) = if nat_le (level (e ∷ t)) k then e ∷ t else up_to k t
 
 abbrev pub above : ℕ → List Entry → List Entry
 above k [] = []
-above k (e ∷ t) = cond (nat_le (level (e ∷ t)) k) [] (e ∷ above k t)
+above k (e ∷ t) = if nat_le (level (e ∷ t)) k then [] else (e ∷ above k t)
 
 -- the complement of the entry's literal is in the conflict
 abbrev pub hit : List ℕ → Entry → Bool
@@ -80,7 +48,7 @@ hit C e = has C (complement e.literal)
 -- the latest such entry, with the trail before it
 abbrev pub latest : List ℕ → List Entry → Option (Entry × List Entry)
 latest C [] = None
-latest C (e ∷ t) = cond (hit C e) (Some (e, t)) (latest C t)
+latest C (e ∷ t) = if hit C e then Some (e, t) else latest C t
 
 abbrev pub is_clause : ℕ → Reason → Bool
 is_clause c Decided = false
@@ -98,7 +66,7 @@ is_learned c = nat_le 512 c && nat_lt c 640
 
 -- the clause with the number `c`, if it is live
 abbrev pub live : List (List ℕ) → List (Option (List ℕ)) → ℕ → Option (List ℕ)
-live book learned c = cond (nat_lt c 512) (slice_get book c) (slice_index_or learned (c - 512) None)
+live book learned c = if nat_lt c 512 then slice_get book c else slice_index_or learned (c - 512) None
 
 abbrev pub live_in : State → ℕ → Option (List ℕ)
 live_in s c = live s.book s.learned c
@@ -125,11 +93,6 @@ explained blames clause_at (Clause c) l t = clause_at c
 explained blames clause_at Theory l t = blames l t
 
 -- ---- the states after accepted steps
-
--- each step that is accepted adds one to the count
-abbrev pub next : State → List (Option (List ℕ)) → List Entry → Option (List ℕ) → Option Verdict → State
-next s learned trail conflict verdict =
-    record { book = s.book; learned = learned; trail = trail; conflict = conflict; verdict = verdict; count = s.count + 1; allowance = s.allowance }
 
 -- one literal more on the trail
 abbrev pub longer : State → ℕ → Reason → State
@@ -180,10 +143,6 @@ fresh n s l o =
 
 -- ---- the rules
 
--- what a step comes to: the state after it, or why it is refused
-abbrev pub Outcome : Type 0
-Outcome = Result State Refusal
-
 abbrev pub decide : ℕ → State → ℕ → Outcome
 decide n s l = fresh n s l (Ok (longer s l Decided))
 
@@ -194,8 +153,7 @@ propagate n s c l =
 
 abbrev pub imply : Meaning → State → ℕ → Outcome
 imply M s l =
-    fresh M.claims s l
-    (demand (is_possible (M.answer (asserted s.trail))) TrailImpossible
+    fresh M.claims s l (demand (is_possible (M.answer (asserted s.trail))) TrailImpossible
     (demand (not (is_possible (M.answer (asserted s.trail ++ complement l ∷ [])))) NotImplied (Ok (longer s l Theory))))
 
 abbrev pub conflict : State → ℕ → Outcome
@@ -208,8 +166,7 @@ clash M s =
     without s.conflict ConflictStands (given (blame (asserted s.trail) (M.answer (asserted s.trail))) TrailPossible (λ R.
     Ok (conflicting s R)))
 
--- in every state that a history comes to, a conflict is false on the trail, and an entry that was not decided has its clause:
--- so only an empty conflict has no latest literal, and only a decided entry is unexplained
+-- the conflict's latest literal gives way to the other literals of what explains its complement
 abbrev pub resolve : (ℕ → List Entry → Option (List ℕ)) → State → Outcome
 resolve blames s =
     given s.conflict NoConflict (λ C. given (latest C s.trail) ConflictEmpty (λ at.
@@ -226,10 +183,14 @@ forget s c =
     given (live_in s c) NotLive (λ R. demand (is_learned c) BookClause
     (demand (not (is_reason c s.trail)) IsReason (Ok (forgetting s c))))
 
+-- every claim is on the trail
+abbrev pub full : ℕ → List Entry → Bool
+full n t = all_below n (λ i. names (literals t) (2 * i))
+
 abbrev pub fit : Meaning → State → ℕ → Outcome
 fit M s place =
     without s.conflict ConflictStands
-    (demand (all_below M.claims (λ i. names (literals s.trail) (2 * i))) ClaimOffTrail
+    (demand (full M.claims s.trail) ClaimOffTrail
     (demand (list_all (list_any (true_on s.trail)) s.book) ClauseNotTrue
     (demand (is_possible (M.answer (asserted s.trail))) TrailImpossible
     (demand (nat_le M.terms place) ShortFitPlace (Ok (ending s verdict.Fit))))))
@@ -255,27 +216,3 @@ unless_over s o = demand (is_none s.verdict) VerdictStands (demand (not (s.count
 
 abbrev pub judge : Meaning → State → Step → Outcome
 judge M s x = unless_over s (rule M s x)
-
--- what the caller is told: the count, or why the step is refused
-abbrev pub says : Outcome → Result ℕ Refusal
-says (Ok s) = Ok s.count
-says (Err r) = Err r
-
--- a refused step leaves the state
-abbrev pub leaves : State → Outcome → State
-leaves s (Ok s') = s'
-leaves s (Err r) = s
-
--- ---- runs
-
-abbrev pub after : Meaning → State → Step → State
-after M s x = leaves s (judge M s x)
-
-abbrev pub run : Meaning → State → List Step → State
-run M s [] = s
-run M s (x ∷ xs) = run M (after M s x) xs
-
--- what the steps of a run return
-abbrev pub answers : Meaning → State → List Step → List (Result ℕ Refusal)
-answers M s [] = []
-answers M s (x ∷ xs) = says (judge M s x) ∷ answers M (after M s x) xs

@@ -7,7 +7,8 @@ use Rattle.rules.specs.declared.step.Verdict.{Verdict}
 use Rattle.rules.specs.declared.step.Verdict.TheVariants as verdict
 use Rattle.rules.specs.declared.refusal.Refusal.{Refusal}
 use Rattle.rules.specs.declared.refusal.Refusal.TheVariants.{NoConflict, NotOneAbove}
-use Rattle.rules.specs.Rules.{State, opened, run, answers}
+use Rattle.rules.specs.States.{State, opened}
+use Rattle.rules.specs.Runs.{run, answers}
 
 -- what the steps return from a state on, and the verdict at their end
 abbrev pub Gives : Meaning → State → List Step → List (Result ℕ Refusal) → Verdict → Type 0

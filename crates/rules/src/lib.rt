@@ -8,7 +8,7 @@ pub mod samples;
 pub mod step;
 
 pub use entry::{Entry, Reason};
-pub use law::histories_stand;
+pub use law::{histories_stand, steps_stand};
 pub use refusal::{Refusal, Unopened};
 pub use samples::samples_stand;
 pub use step::{Step, Verdict};

@@ -1,4 +1,6 @@
 //! The steps that a search may propose, and what a history comes to.
+ghost use Rattle.std.specs.Prelude.{◌≡◌};
+ghost use Rattle.rules.specs.Kinds.{kind, verdict_number};
 
 use theory::Literal;
 
@@ -27,9 +29,41 @@ pub enum Step {
     NoFit,
 }
 
+impl Step {
+    /// The number by which callers know the kind of step.
+    pub fn kind(self) -> u8
+        ensures { result ≡ kind self }
+    {
+        match self {
+            Step::Decide(_) => 16,
+            Step::Propagate(_, _) => 17,
+            Step::Imply(_) => 18,
+            Step::Conflict(_) => 19,
+            Step::Clash => 20,
+            Step::Resolve => 21,
+            Step::Jump(_, _) => 22,
+            Step::Forget(_) => 23,
+            Step::Fit(_) => 24,
+            Step::NoFit => 25,
+        }
+    }
+}
+
 /// What a history may end with.
 #[derive(Clone, Copy, PartialEq, Eq, Debug)]
 pub enum Verdict {
     Fit,
     NoFit,
+}
+
+impl Verdict {
+    /// The number of the kind of step that gives the verdict.
+    pub fn number(self) -> u8
+        ensures { result ≡ verdict_number self }
+    {
+        match self {
+            Verdict::Fit => 24,
+            Verdict::NoFit => 25,
+        }
+    }
 }
