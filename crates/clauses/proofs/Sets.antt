@@ -1,9 +1,11 @@
 -- The one list of a set of literals. Assumes nothing.
-use Rattle.std.proofs.Common.{◌≡◌, ℕ, zero, suc, ◌+◌, ◌<◌, ◌≤◌, Bool, true, false, not, ◌&&◌, ◌||◌, ◌==◌, eqb, List, [], ◌∷◌, ◌++◌, length, get_or, take, set, sym, refl, ap, ◌∙◌, ⊎_elim, append-nil, add-zero, zero-add, add-one, replicate, arith, get_or-set_other, get_or-set_same, is_none, slice_get, IsTrue, ◌↔◌, EachIndex}
+use Rattle.std.proofs.Common.{◌≡◌, ℕ, zero, suc, ◌+◌, ◌-◌, ◌<◌, ◌≤◌, Bool, true, false, not, ◌&&◌, ◌||◌, ◌==◌, eqb, List, [], ◌∷◌, ◌++◌, length, get_or, take, set, sym, refl, ap, ◌∙◌, ⊎_elim, append-nil, add-zero, zero-add, add-one, replicate, arith, get_or-set_other, get_or-set_same, IsTrue, ◌↔◌, EachIndex}
 use Rattle.std.proofs.lemmas.Bool.{or_left, or_right, eq-eqb, ne_eqb, cases_eq, and_from, not_from_false}
 use Rattle.std.proofs.lemmas.List.{take_more, take_all, length_push, get_or-replicate}
 use Rattle.std.proofs.Math.Bool.{or-false, and-false}
-use Rattle.std.specs.Cmp.{both_ways as same_truth}
+use Rattle.std.specs.Iterator.{YieldsFirst}
+use Rattle.std.proofs.lemmas.Iterator.{YieldsList}
+use Rattle.std.proofs.lemmas.Iterator.Consumers.{YieldsList-from_first}
 use Rattle.theory.specs.Literals.{has, complement}
 use Rattle.theory.specs.Positions.{put, listed}
 use Rattle.rules.specs.Clauses.{set_of}
@@ -11,7 +13,9 @@ use Rattle.rules.specs.Rules.{resolved}
 use Rattle.rules.proofs.Lists.{has_push}
 use Rattle.rules.proofs.Clauses.{set_has, set_same}
 use Rattle.clauses.specs.declared.set.LiteralSet.{LiteralSet}
+use Rattle.clauses.specs.declared.set.Literals.{Literals}
 use Rattle.clauses.specs.Sets.{members}
+use Rattle.clauses.specs.Left.{literals_left}
 
 pub members_set : (s : LiteralSet) → set_of (has (members s)) ≡ members s
 members_set s = set_same _ _ (set_has _)
@@ -100,14 +104,28 @@ none_listed low zero = refl
 none_listed low (suc count) = none_listed (low + 1) count
 
 pub empty_set : (marks : List Bool) (r : Bool) → length marks ≡ 256 → (IsTrue r ↔ EachIndex marks (λ k. get_or marks k false ≡ false))
-    → r ≡ is_none (slice_get (set_of (λ m. get_or marks m false)) 0)
-empty_set marks r long h = same_truth _ _
-    (λ e. ap (λ xs. is_none (slice_get xs 0)) (set_same _ (λ m. false) (λ m k. h.0 e m (omega arith)) ∙ none_listed 0 256))
-    (λ e. h.1 (λ k b. sym (set_has _ k (omega arith)) ∙ ap (λ xs. has xs k) (nothing _ e)))
-  where
-    nothing : (xs : List ℕ) → is_none (slice_get xs 0) ≡ true → xs ≡ []
-    nothing [] e = refl
-    nothing (x ∷ xs) e = cc
+    → IsTrue r ↔ (set_of (λ m. get_or marks m false) ≡ [])
+empty_set marks r long h = (
+  λ e. set_same _ (λ m. false) (λ m k. h.0 e m (omega arith)) ∙ none_listed 0 256,
+  λ e. h.1 (λ k b. sym (set_has _ k (omega arith)) ∙ ap (λ xs. has xs k) e),
+)
+
+-- ---- on the way through a set
+
+-- a number that is none of the set's, one that is, and the end
+pub left_skip : (test : ℕ → Bool) (l : ℕ) → l < 256 → test l ≡ false → listed l (256 - l) test ≡ listed (l + 1) (256 - (l + 1)) test
+unfolding listed
+left_skip test l h e =
+    ap (λ (n : ℕ). listed l n test) (let q : 256 - l ≡ suc (256 - (l + 1)) = omega arith in q) ∙ ap (λ b. put b l (listed (l + 1) (256 - (l + 1)) test)) e
+
+pub left_take : (test : ℕ → Bool) (l : ℕ) → l < 256 → test l ≡ true → listed l (256 - l) test ≡ l ∷ listed (l + 1) (256 - (l + 1)) test
+unfolding listed
+left_take test l h e =
+    ap (λ (n : ℕ). listed l n test) (let q : 256 - l ≡ suc (256 - (l + 1)) = omega arith in q) ∙ ap (λ b. put b l (listed (l + 1) (256 - (l + 1)) test)) e
+
+pub left_none : (test : ℕ → Bool) (l : ℕ) → 256 ≤ l → listed l (256 - l) test ≡ []
+unfolding listed
+left_none test l h = ap (λ (n : ℕ). listed l n test) (let q : 256 - l ≡ 0 = omega arith in q)
 
 -- ---- literals put down one by one
 
@@ -134,6 +152,13 @@ listed_short low (suc n) test = go (test low) (listed (low + 1) n test) (listed_
     go : (b : Bool) (xs : List ℕ) → length xs ≤ n → length (put b low xs) ≤ suc n
     go true xs h = omega arith
     go false xs h = omega arith
+
+pub members_few : (s : LiteralSet) → length (members s) ≤ 256
+members_few s = listed_short 0 256 (λ m. get_or s.marks m false)
+
+-- going through a set gives its literals
+pub literals_chain : (s : Literals) → YieldsList (YieldsFirst literals_left) (λ x. x) s (literals_left s)
+literals_chain s = YieldsList-from_first (λ x. x) literals_left (literals_left s) refl
 
 pub stored_more : (xs : List ℕ) (n : ℕ) (test : ℕ → Bool) → n < 256 → xs ≡ listed 0 n test → test n ≡ true → take 256 (xs ++ n ∷ []) ≡ listed 0 (n + 1) test
 stored_more xs n test h is e =

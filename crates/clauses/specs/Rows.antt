@@ -1,5 +1,5 @@
 -- A book in its row, and why a row is refused. Assumes nothing.
-use Rattle.std.specs.Prelude.{◌≡◌, ℕ, zero, suc, ◌+◌, ◌≤◌, cond, List, [], ◌∷◌, length, take, drop, nat_le, Ok, Err, Result}
+use Rattle.std.specs.Prelude.{◌≡◌, ℕ, zero, suc, ◌+◌, ◌≤◌, if◌then◌else◌, List, [], ◌∷◌, length, take, drop, nat_le, Ok, Err, Result}
 use Rattle.std.specs.List.{All}
 use Rattle.theory.specs.Literals.{Proper}
 use Rattle.rules.specs.declared.refusal.Refusal.{Refusal}
@@ -12,7 +12,7 @@ use Rattle.rules.specs.Clauses.{Book, size, row_of}
 unfoldable pub first_clauses : ℕ → List ℕ → List (List ℕ)
 first_clauses zero row = []
 first_clauses (suc n) [] = []
-first_clauses (suc n) (count ∷ rest) = cond (nat_le count (length rest)) (take count rest ∷ first_clauses n (drop count rest)) []
+first_clauses (suc n) (count ∷ rest) = if nat_le count (length rest) then take count rest ∷ first_clauses n (drop count rest) else []
 
 -- each takes one number at least
 unfoldable pub clauses_in : List ℕ → List (List ℕ)
@@ -29,13 +29,18 @@ pub record Formed (row : List ℕ) (book : List (List ℕ)) : Type 0 where
   pub few_clauses : length book ≤ 512
   pub few_literals : size book ≤ 4096
 
--- why a row is refused, where there are `n` claims: it is that of no book within the limits; then, a clause is none of theirs
+-- why a row is refused, where there are `n` claims: it is that of no book within the limits; then, a clause is none
+-- of theirs
 pub data Barred (n : ℕ) (row : List ℕ) : Refusal → Type 0 where
   past_limit : ((book : List (List ℕ)) → Formed row book → ⊥) → Barred n row PastLimit
   bad_clause : (book : List (List ℕ)) → Formed row book → (All (Proper n) book → ⊥) → Barred n row BadClause
 
--- what reading a row gives, by what a book then has: the row's clauses, or want of memory for them, or the first cause of a refusal
+-- why a row gives no book: it is refused, or memory is short for the book of it
+abbrev pub Unread : ℕ → List ℕ → Unopened → Type 0
+Unread n row NoMemory = (book : List (List ℕ)) × Formed row book × Book n book
+Unread n row (Refused r) = Barred n row r
+
+-- what reading a row gives, by what a book then has: the row's clauses, or why there are none
 abbrev pub Reads : {B : Type 0} → (B → List (List ℕ)) → ℕ → List ℕ → Result B Unopened → Type 0
 Reads book_of n row (Ok b) = Formed row (book_of b) × Book n (book_of b)
-Reads book_of n row (Err NoMemory) = (book : List (List ℕ)) × Formed row book × Book n book
-Reads book_of n row (Err (Refused r)) = Barred n row r
+Reads book_of n row (Err why) = Unread n row why

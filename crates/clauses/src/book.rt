@@ -16,7 +16,7 @@ pub struct Book {
 }
 
 impl Book {
-    ghost use Rattle.std.specs.Prelude.{slice_get};
+    ghost use Rattle.std.specs.Prelude.{slice_get, length};
     ghost use Rattle.std.specs.Option.{option_copied};
     ghost use Rattle.clauses.specs.Rows.{Reads};
     ghost use Rattle.clauses.specs.Learning.{book_of};
@@ -34,6 +34,13 @@ impl Book {
         let starts = list_starts(heap, row)?;
         let row = row.iter().copied().collect(heap)?;
         Ok(Book { row, starts })
+    }
+
+    /// How many clauses it has.
+    pub fn len(&self) -> usize
+        ensures { result ≡ length (book_of self.now) }
+    {
+        self.starts.len()
     }
 
     /// The clauses, one by one.

@@ -10,5 +10,5 @@ pub mod stored;
 pub use book::Book;
 pub use learned::Learned;
 pub use row::Clauses;
-pub use set::LiteralSet;
+pub use set::{LiteralSet, Literals};
 pub use stored::StoredClause;

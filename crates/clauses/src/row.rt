@@ -1,5 +1,5 @@
 //! Rows: for each clause a count and then its literals.
-ghost use Rattle.std.specs.Prelude.{◌≡◌, Decides};
+ghost use Rattle.std.specs.Prelude.{◌≡◌, ◌↔◌, IsTrue};
 ghost use Rattle.std.specs.List.{All};
 ghost use Rattle.std.specs.Iterator.{YieldsFirstRef, item_count};
 ghost use Rattle.theory.specs.Literals.{Proper};
@@ -43,7 +43,7 @@ fn count_literals(row: &[u16]) -> usize
 
 /// Whether a row is that of a book within the limits.
 pub(crate) fn is_formed(row: &[u16]) -> bool
-    ensures { Decides result (Formed row.now (clauses_in row.now)) }
+    ensures { IsTrue result ↔ Formed row.now (clauses_in row.now) }
 {
     let clauses = Clauses(row).count();
     let literals = count_literals(row);
@@ -56,7 +56,7 @@ pub(crate) fn is_formed(row: &[u16]) -> bool
 
 /// Whether a clause has literals of so many claims, and no claim twice.
 fn is_proper(clause: &[Literal], claims: usize) -> bool
-    ensures { Decides result (Proper claims clause.now) }
+    ensures { IsTrue result ↔ Proper claims clause.now }
 {
     for (i, l) in clause.iter().enumerate() {
         if usize::from(*l / 2) >= claims || names(&clause[i + 1..], *l) {
@@ -68,7 +68,7 @@ fn is_proper(clause: &[Literal], claims: usize) -> bool
 
 /// Whether each clause of a row has literals of so many claims, and no claim twice.
 pub(crate) fn all_proper(row: &[u16], claims: usize) -> bool
-    ensures { Decides result (All (Proper claims) (clauses_in row.now)) }
+    ensures { IsTrue result ↔ All (Proper claims) (clauses_in row.now) }
 {
     Clauses(row).all(|clause| is_proper(clause, claims))
 }

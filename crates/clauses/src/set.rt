@@ -1,4 +1,6 @@
 //! A set of literals, as a mark for each.
+ghost use Rattle.std.specs.Iterator.{YieldsFirst, item_count};
+ghost use Rattle.clauses.specs.Left.{literals_left};
 
 use theory::Literal;
 use theory::literal::complement_of;
@@ -11,7 +13,7 @@ pub struct LiteralSet {
 }
 
 impl LiteralSet {
-    ghost use Rattle.std.specs.Prelude.{◌≡◌, not, ◌&&◌, ◌||◌, ◌==◌, is_none, slice_get};
+    ghost use Rattle.std.specs.Prelude.{◌≡◌, ◌↔◌, IsTrue, [], length, not, ◌&&◌, ◌||◌, ◌==◌};
     ghost use Rattle.theory.specs.Literals.{has};
     ghost use Rattle.rules.specs.Clauses.{set_of};
     ghost use Rattle.rules.specs.Rules.{resolved};
@@ -42,9 +44,23 @@ impl LiteralSet {
 
     /// Whether the set has none.
     pub fn is_empty(&self) -> bool
-        ensures { result ≡ is_none (slice_get (members self.now) 0) }
+        ensures { IsTrue result ↔ (members self.now ≡ []) }
     {
         self.marks.iter().all(|mark| !*mark)
+    }
+
+    /// How many it has.
+    pub fn len(&self) -> usize
+        ensures { result ≡ length (members self.now) }
+    {
+        self.iter().count()
+    }
+
+    /// Its literals, rising.
+    pub fn iter(&self) -> Literals<'_>
+        ensures { literals_left result ≡ members self.now }
+    {
+        Literals { set: self, next: 0 }
     }
 
     /// Takes the complement of `l` out, and puts the other literals of a clause that has `l` in.
@@ -68,5 +84,31 @@ impl LiteralSet {
         if l < self.marks.len() {
             self.marks[l] = is_in;
         }
+    }
+}
+
+/// The literals of a set, one by one, rising.
+#[derive(Clone, Copy)]
+pub struct Literals<'a> {
+    set: &'a LiteralSet,
+    next: Literal,
+}
+
+impl Iterator for Literals<'_> {
+    type Item = Literal;
+
+    ghost next_gives = { YieldsFirst literals_left };
+
+    ghost remaining = { item_count literals_left };
+
+    fn next(&mut self) -> Option<Literal> {
+        while self.next < 256 {
+            let l = self.next;
+            self.next += 1;
+            if self.set.has(l) {
+                return Some(l);
+            }
+        }
+        None
     }
 }

@@ -7,7 +7,8 @@ use Rattle.rules.specs.declared.entry.Entry.{Entry}
 use Rattle.rules.specs.declared.refusal.Refusal.{Refusal}
 use Rattle.rules.specs.declared.refusal.Refusal.TheVariants.{NoSuchLiteral, ClaimOnTrail}
 use Rattle.rules.specs.Clauses.{only}
-use Rattle.rules.specs.Rules.{literals, asserted, up_to, above, hit, demand}
+use Rattle.rules.specs.States.{literals, asserted}
+use Rattle.rules.specs.Rules.{up_to, above, hit, demand}
 use Rattle.rules.proofs.Trails.{complement_named, Takes}
 use Rattle.rules.proofs.Views.{cut_view, cut_takes, only_view}
 use Rattle.trail.specs.Trails.{sole_above, push_says}

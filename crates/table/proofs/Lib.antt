@@ -1,1 +1,3 @@
 pub mod Jumping
+pub mod Next
+pub mod Explained

@@ -1,2 +1,4 @@
 pub mod Tables
 pub mod Steps
+pub mod Next
+pub mod Explained

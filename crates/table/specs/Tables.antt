@@ -3,7 +3,8 @@ use Rattle.std.specs.Prelude.{ℕ, List, [], Option, map, length, vec_items, sli
 use Rattle.std.specs.Option.{option_map}
 use Rattle.rules.specs.declared.entry.Entry.{Entry}
 use Rattle.rules.specs.declared.entry.Reason.{Reason}
-use Rattle.rules.specs.Rules.{State, explained}
+use Rattle.rules.specs.States.{State}
+use Rattle.rules.specs.Rules.{explained}
 use Rattle.clauses.specs.Sets.{members}
 use Rattle.clauses.specs.Stored.{clause_of}
 use Rattle.clauses.specs.Learning.{book_of, learned_of}
@@ -34,6 +35,9 @@ blames_of t = map clause_of (vec_items t.blames)
 -- what is stored for an entry that comes after a trail
 abbrev pub stored : List (List ℕ) → ℕ → List Entry → Option (List ℕ)
 stored blames l t = slice_get blames (length t)
+
+abbrev pub stored_in : Table → ℕ → List Entry → Option (List ℕ)
+stored_in t = stored (blames_of t)
 
 -- the clause by which an entry followed, by its reason and its position
 abbrev pub by_reason : (ℕ → Option (List ℕ)) → List (List ℕ) → Reason → ℕ → Option (List ℕ)

@@ -7,6 +7,7 @@ use rules::Verdict;
 use trail::Trail;
 
 pub mod checks;
+pub mod next;
 pub mod open;
 pub mod steps;
 

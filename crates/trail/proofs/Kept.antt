@@ -12,12 +12,14 @@ use Rattle.rules.specs.declared.entry.Entry.{Entry}
 use Rattle.rules.specs.declared.refusal.Refusal.{Refusal}
 use Rattle.rules.specs.declared.refusal.Refusal.TheVariants.{NoSuchLiteral, ClaimOnTrail}
 use Rattle.rules.specs.Clauses.{all_below}
-use Rattle.rules.specs.Rules.{literals, asserted, decisions, level, up_to, demand}
+use Rattle.rules.specs.States.{literals, asserted, decisions, level}
+use Rattle.rules.specs.Rules.{up_to, demand}
 use Rattle.rules.proofs.Lists.{all_below_at, all_below_not, missing}
 use Rattle.rules.proofs.Trails.{asserted_names, asserted_length, Takes, latest_goes, proper_before, proper_length}
 use Rattle.trail.specs.declared.trail.Trail.{Trail}
 use Rattle.trail.specs.Trails.{claims_of, trail_of, push_says}
-use Rattle.trail.specs.Kept.{place_on, Leveled, Placed}
+use Rattle.trail.specs.Positions.{position_of}
+use Rattle.trail.specs.Kept.{Leveled, Placed}
 
 pub reverse_push : (es : List Entry) (e : Entry) → reverse (es ++ e ∷ []) ≡ e ∷ reverse es
 reverse_push es e = reverse-append es (e ∷ [])
@@ -63,25 +65,25 @@ leveled_pop levels es e old p h =
 
 -- ---- places
 
-is_some_place : (t : List Entry) (l : ℕ) → is_some (place_on t l) ≡ has (literals t) l
+pub is_some_place : (t : List Entry) (l : ℕ) → is_some (position_of t l) ≡ has (literals t) l
 is_some_place [] l = refl
 is_some_place (e ∷ t) l = go (eqb e.literal l) (is_some_place t l)
   where
-    go : (b : Bool) → is_some (place_on t l) ≡ has (literals t) l → is_some (cond b (Some (length t)) (place_on t l)) ≡ (b || has (literals t) l)
+    go : (b : Bool) → is_some (position_of t l) ≡ has (literals t) l → is_some (cond b (Some (length t)) (position_of t l)) ≡ (b || has (literals t) l)
     go true r = refl
     go false r = r
 
 -- what is read at a literal
 pub is_placed : (places : List (Option ℕ)) (es : List Entry) (l : ℕ) (o : Option (Option ℕ)) → unwrap_or o None ≡ get_or places l None → Placed places es
-    → is_some (option_flatten o) ≡ has (literals (reverse es)) l
-is_placed places es l o e k = ap is_some (flat o ∙ e ∙ k l) ∙ is_some_place (reverse es) l
+    → option_flatten o ≡ position_of (reverse es) l
+is_placed places es l o e k = flat o ∙ e ∙ k l
   where
     flat : (o : Option (Option ℕ)) → option_flatten o ≡ unwrap_or o None
     flat None = refl
     flat (Some o) = refl
 
-place_off : (t : List Entry) (l : ℕ) → has (literals t) l ≡ false → place_on t l ≡ None
-place_off t l h = none (place_on t l) (is_some_place t l ∙ h)
+place_off : (t : List Entry) (l : ℕ) → has (literals t) l ≡ false → position_of t l ≡ None
+place_off t l h = none (position_of t l) (is_some_place t l ∙ h)
   where
     none : (o : Option ℕ) → is_some o ≡ false → o ≡ None
     none None e = refl
@@ -97,12 +99,12 @@ placed_push places es e h old l =
     ⊎_elim
     (λ (q : e.literal ≡ l).
     ap (λ (i : ℕ). get_or (set places e.literal (Some (length es))) i None) (sym q) ∙ get_or-set_same places e.literal (Some (length es)) None h
-    ∙ ap Some (sym (length-reverse es)) ∙ ap (λ b. cond b (Some (length (reverse es))) (place_on (reverse es) l)) (sym (eq-eqb e.literal l q)))
+    ∙ ap Some (sym (length-reverse es)) ∙ ap (λ b. cond b (Some (length (reverse es))) (position_of (reverse es) l)) (sym (eq-eqb e.literal l q)))
     (λ (q : e.literal ≢ l).
     get_or-set_other places e.literal l (Some (length es)) None (λ z. q (sym z)) ∙ old l
-    ∙ ap (λ b. cond b (Some (length (reverse es))) (place_on (reverse es) l)) (sym (ne_eqb e.literal l q)))
+    ∙ ap (λ b. cond b (Some (length (reverse es))) (position_of (reverse es) l)) (sym (ne_eqb e.literal l q)))
     (cases_eq e.literal l)
-    ∙ ap (λ t. place_on t l) (sym (reverse_push es e))
+    ∙ ap (λ t. position_of t l) (sym (reverse_push es e))
 
 placed_pop : (places : List (Option ℕ)) (es : List Entry) (e : Entry) → e.literal < length places → has (literals (reverse es)) e.literal ≡ false
     → Placed places (es ++ e ∷ []) → Placed (set places e.literal None) es
@@ -110,10 +112,10 @@ placed_pop places es e h off old l =
     ⊎_elim
     (λ (q : e.literal ≡ l).
     ap (λ (i : ℕ). get_or (set places e.literal None) i None) (sym q) ∙ get_or-set_same places e.literal None None h
-    ∙ sym (place_off (reverse es) e.literal off) ∙ ap (place_on (reverse es)) q)
+    ∙ sym (place_off (reverse es) e.literal off) ∙ ap (position_of (reverse es)) q)
     (λ (q : e.literal ≢ l).
-    get_or-set_other places e.literal l None None (λ z. q (sym z)) ∙ old l ∙ ap (λ t. place_on t l) (reverse_push es e)
-    ∙ ap (λ b. cond b (Some (length (reverse es))) (place_on (reverse es) l)) (ne_eqb e.literal l q))
+    get_or-set_other places e.literal l None None (λ z. q (sym z)) ∙ old l ∙ ap (λ t. position_of t l) (reverse_push es e)
+    ∙ ap (λ b. cond b (Some (length (reverse es))) (position_of (reverse es) l)) (ne_eqb e.literal l q))
     (cases_eq e.literal l)
 
 -- ---- taking a literal

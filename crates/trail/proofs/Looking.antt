@@ -7,7 +7,8 @@ use Rattle.std.specs.Option.{is_some, option_map}
 use Rattle.theory.specs.Literals.{complement}
 use Rattle.rules.specs.declared.entry.Entry.{Entry}
 use Rattle.rules.specs.Clauses.{only}
-use Rattle.rules.specs.Rules.{asserted, level, above, hit, latest}
+use Rattle.rules.specs.States.{asserted, level}
+use Rattle.rules.specs.Rules.{above, hit, latest}
 use Rattle.rules.proofs.Views.{above_none}
 use Rattle.trail.specs.Kept.{Leveled}
 use Rattle.trail.specs.Trails.{latest_at, blamed}

@@ -1,12 +1,8 @@
 -- What a trail keeps beside its entries. Assumes nothing.
-use Rattle.std.specs.Prelude.{◌≡◌, ℕ, ◌+◌, ◌<◌, List, [], ◌∷◌, Option, Some, None, cond, reverse, length, take, ◌==◌, slice_index, slice_index_or}
+use Rattle.std.specs.Prelude.{◌≡◌, ℕ, ◌+◌, ◌<◌, List, Option, None, reverse, length, take, slice_index, slice_index_or}
 use Rattle.rules.specs.declared.entry.Entry.{Entry}
-use Rattle.rules.specs.Rules.{level}
-
--- the position of a literal that is on a trail, whose latest entry is first
-abbrev pub place_on : List Entry → ℕ → Option ℕ
-place_on [] l = None
-place_on (e ∷ t) l = cond (e.literal == l) (Some (length t)) (place_on t l)
+use Rattle.rules.specs.States.{level}
+use Rattle.trail.specs.Positions.{position_of}
 
 -- the levels stand beside entries that have the oldest first
 abbrev pub Leveled : List ℕ → List Entry → Type 0
@@ -14,4 +10,4 @@ Leveled levels es = (p : ℕ) → p < length es → slice_index levels p ≡ lev
 
 -- and so do the positions, by literal
 abbrev pub Placed : List (Option ℕ) → List Entry → Type 0
-Placed places es = (l : ℕ) → slice_index_or places l None ≡ place_on (reverse es) l
+Placed places es = (l : ℕ) → slice_index_or places l None ≡ position_of (reverse es) l

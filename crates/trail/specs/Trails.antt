@@ -1,13 +1,14 @@
 -- What callers see of a trail. Assumes nothing.
-use Rattle.std.specs.Prelude.{ℕ, ◌*◌, not, cond, List, ◌∷◌, Option, map, reverse, length, filter, Result, Ok, nat_lt, vec_items, slice_index_or}
+use Rattle.std.specs.Prelude.{ℕ, ◌*◌, not, List, ◌∷◌, Option, map, reverse, length, take, filter, Bool, if◌then◌else◌, Result, Ok, nat_lt, vec_items, slice_index_or}
 use Rattle.std.specs.Option.{option_map}
 use Rattle.theory.specs.Literals.{complement, names}
 use Rattle.rules.specs.declared.entry.Entry.{Entry}
 use Rattle.rules.specs.declared.entry.Reason.{Reason}
 use Rattle.rules.specs.declared.refusal.Refusal.{Refusal}
 use Rattle.rules.specs.declared.refusal.Refusal.TheVariants.{NoSuchLiteral, ClaimOnTrail}
-use Rattle.rules.specs.Clauses.{only}
-use Rattle.rules.specs.Rules.{demand, literals, latest, above, hit}
+use Rattle.rules.specs.Clauses.{all_below, only}
+use Rattle.rules.specs.States.{literals, asserted}
+use Rattle.rules.specs.Rules.{demand, latest, above, hit}
 use Rattle.trail.specs.declared.trail.Trail.{Trail}
 
 -- how many claims there are
@@ -24,7 +25,10 @@ abbrev pub push_says : ℕ → List Entry → ℕ → Result (Unit {0}) Refusal
 push_says n t l = demand (nat_lt l (2 * n)) NoSuchLiteral (demand (not (names (literals t) l)) ClaimOnTrail (Ok tt))
 
 abbrev pub push_leaves : ℕ → List Entry → ℕ → Reason → List Entry
-push_leaves n t l r = cond (nat_lt l (2 * n)) (cond (names (literals t) l) t (record { literal = l; reason = r } ∷ t)) t
+push_leaves n t l r = if nat_lt l (2 * n) then (if names (literals t) l then t else record { literal = l; reason = r } ∷ t) else t
+
+abbrev pub pushed : Trail → ℕ → Reason → List Entry
+pushed t l r = push_leaves (claims_of t) (trail_of t) l r
 
 -- ---- looking back from the end
 
@@ -41,3 +45,7 @@ sole_above k C t = option_map (λ e. complement e.literal) (only (filter (hit C)
 -- the complements of a core's literals, where `next` comes after the literals of a list
 abbrev pub blamed : List ℕ → ℕ → List ℕ → List ℕ
 blamed ls next core = map (λ p. complement (slice_index_or ls p next)) core
+
+-- of a trail's literals, as many as a clause has room for
+abbrev pub blamed_on : Trail → ℕ → List ℕ → List ℕ
+blamed_on t next core = take 256 (blamed (asserted (trail_of t)) next core)

@@ -1,7 +1,7 @@
 //! The trail, kept so that a literal's value is one look-up.
 ghost use Rattle.std.specs.Prelude.{◌≡◌, ◌≤◌, length, vec_capacity, reverse};
 ghost use Rattle.theory.specs.Literals.{Proper};
-ghost use Rattle.rules.specs.Rules.{asserted};
+ghost use Rattle.rules.specs.States.{asserted};
 ghost use Rattle.trail.specs.Kept.{Leveled, Placed};
 
 use rules::Entry;

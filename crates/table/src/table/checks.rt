@@ -1,15 +1,16 @@
 //! What a table is asked.
-ghost use Rattle.std.specs.Prelude.{◌≡◌, ◌*◌, ◌&&◌, Ok, map, length, reverse, is_none, option_copied, option_map};
+ghost use Rattle.std.specs.Prelude.{◌≡◌, ◌&&◌, Ok, map, length, slice_get, is_none, is_some, option_copied, option_map};
 ghost use Rattle.std.specs.List.{list_all, list_any};
-ghost use Rattle.theory.specs.Literals.{has, names};
-ghost use Rattle.rules.specs.Clauses.{all_below};
-ghost use Rattle.rules.specs.declared.refusal.Refusal.TheVariants.{ConflictStands, ClaimOffTrail, ClauseNotTrue};
+ghost use Rattle.theory.specs.Literals.{has};
 ghost use Rattle.clauses.specs.Learning.{book_of, learned_of};
-ghost use Rattle.rules.specs.Rules.{unless_over, without, demand, fresh, is_learned, live, literals, true_on};
+ghost use Rattle.rules.specs.States.{level};
+ghost use Rattle.rules.specs.Rules.{unless_over, is_learned, live, live_in, true_on, false_on};
 ghost use Rattle.clauses.specs.Sets.{members};
 ghost use Rattle.clauses.specs.Stored.{clause_of};
-ghost use Rattle.trail.specs.Kept.{Leveled};
-ghost use Rattle.table.specs.Tables.{state_of, claims_of, by_reason};
+ghost use Rattle.trail.specs.Positions.{entry_at, level_at, position_of};
+ghost use Rattle.table.specs.Tables.{state_of, claims_of, by_reason, stored_in};
+ghost use Rattle.table.specs.Explained.{explained_at};
+ghost use Rattle.table.specs.Steps.{calm, may_enter, may_end};
 
 use crate::table::Table;
 use clauses::{Book, Learned, LiteralSet, StoredClause};
@@ -50,7 +51,8 @@ pub(crate) fn reason<'a>(
     reason: Reason,
     p: usize,
 ) -> Option<&'a [Literal]>
-    ensures { option_copied result ≡ by_reason (live (book_of book.now) (learned_of learned.now)) (map clause_of blames.now) reason p }
+    ensures { option_copied result
+        ≡ by_reason (live (book_of book.now) (learned_of learned.now)) (map clause_of blames.now) reason p }
 {
     match reason {
         Reason::Decided => None,
@@ -63,19 +65,98 @@ pub(crate) fn reason<'a>(
 }
 
 impl Table {
-    /// The entries of the trail, the oldest first.
-    pub fn entries(&self) -> &[Entry]
-        ensures { reverse result.now ≡ (state_of self.now).trail }
+    /// How many claims there are.
+    pub fn claims(&self) -> usize
+        ensures { result ≡ claims_of self.now }
     {
-        self.trail.entries()
+        self.trail.claims()
     }
 
-    /// The level of each entry.
-    pub fn levels(&self) -> &[u32]
-        ensures long { length result.now ≡ length (state_of self.now).trail }
-        ensures levels { Leveled result.now (reverse (state_of self.now).trail) }
+    /// How many clauses the book has.
+    pub fn book_len(&self) -> usize
+        ensures { result ≡ length (state_of self.now).book }
     {
-        self.trail.levels()
+        self.book.len()
+    }
+
+    /// The clause with a number, if it is live.
+    pub fn clause(&self, c: u16) -> Option<&[Literal]>
+        ensures { option_copied result ≡ live_in (state_of self.now) c }
+    {
+        live(&self.book, &self.learned, c)
+    }
+
+    /// Whether a clause is live.
+    pub fn is_live(&self, c: u16) -> bool
+        ensures { result ≡ is_some (live_in (state_of self.now) c) }
+    {
+        self.clause(c).is_some()
+    }
+
+    /// How many entries the trail has.
+    pub fn len(&self) -> usize
+        ensures { result ≡ length (state_of self.now).trail }
+    {
+        self.trail.len()
+    }
+
+    /// The entry at a position of the trail.
+    pub fn entry(&self, p: usize) -> Option<Entry>
+        ensures { result ≡ entry_at (state_of self.now).trail p }
+    {
+        self.trail.entry(p)
+    }
+
+    /// The latest entry.
+    pub fn last(&self) -> Option<Entry>
+        ensures { result ≡ slice_get (state_of self.now).trail 0 }
+    {
+        self.trail.last()
+    }
+
+    /// The level of the entry at a position.
+    pub fn level_at(&self, p: usize) -> Option<u32>
+        ensures { result ≡ level_at (state_of self.now).trail p }
+    {
+        self.trail.level_at(p)
+    }
+
+    /// The level of the latest entry.
+    pub fn level(&self) -> u32
+        ensures { result ≡ level (state_of self.now).trail }
+    {
+        self.trail.level()
+    }
+
+    /// The position of a literal, if it is on the trail.
+    pub fn position(&self, l: Literal) -> Option<usize>
+        ensures { result ≡ position_of (state_of self.now).trail l }
+    {
+        self.trail.position(l)
+    }
+
+    /// Whether a literal is on the trail.
+    pub fn is_true(&self, l: Literal) -> bool
+        ensures { result ≡ true_on (state_of self.now).trail l }
+    {
+        self.trail.is_true(l)
+    }
+
+    /// Whether its complement is.
+    pub fn is_false(&self, l: Literal) -> bool
+        ensures { result ≡ false_on (state_of self.now).trail l }
+    {
+        self.trail.is_false(l)
+    }
+
+    /// The clause by which the entry at a position followed: its reason, or what the theory blamed. There is none if
+    /// it was decided, or if no entry is there.
+    pub fn explanation(&self, p: usize) -> Option<&[Literal]>
+        ensures { let s = state_of self.now in
+            option_copied result ≡ explained_at (stored_in self.now) (live_in s) s.trail p }
+    {
+        let entry = self.entry(p)?;
+        reason(&self.book, &self.learned, &self.blames, entry.reason, p)
     }
 
     /// The conflict, if one stands.
@@ -90,6 +171,20 @@ impl Table {
         ensures { result ≡ (state_of self.now).verdict }
     {
         self.verdict
+    }
+
+    /// How many steps were accepted.
+    pub fn count(&self) -> u32
+        ensures { result ≡ (state_of self.now).count }
+    {
+        self.count
+    }
+
+    /// How many may be.
+    pub fn allowance(&self) -> u32
+        ensures { result ≡ (state_of self.now).allowance }
+    {
+        self.allowance
     }
 
     /// Whether a step may still be accepted: there is no verdict, and some allowance is left.
@@ -107,7 +202,7 @@ impl Table {
 
     /// Whether a step may be accepted that wants no conflict.
     pub fn check_calm(&self) -> Result<(), Refusal>
-        ensures { result ≡ unless_over (state_of self.now) (without (state_of self.now).conflict ConflictStands (Ok tt)) }
+        ensures { result ≡ calm (state_of self.now) }
     {
         self.check()?;
         if self.conflict.is_some() {
@@ -118,7 +213,7 @@ impl Table {
 
     /// Whether a step may be accepted that puts a literal on the trail.
     pub fn check_fresh(&self, l: Literal) -> Result<(), Refusal>
-        ensures { result ≡ unless_over (state_of self.now) (fresh (claims_of self.now) (state_of self.now) l (Ok tt)) }
+        ensures { result ≡ may_enter (claims_of self.now) (state_of self.now) l }
     {
         self.check_calm()?;
         self.trail.check(l)
@@ -126,7 +221,7 @@ impl Table {
 
     /// Whether the trail has every claim, and a true literal of each clause of the book.
     pub fn check_complete(&self) -> Result<(), Refusal>
-        ensures { result ≡ unless_over (state_of self.now) (without (state_of self.now).conflict ConflictStands (demand (all_below (claims_of self.now) (λ i. names (literals (state_of self.now).trail) (2 * i))) ClaimOffTrail (demand (list_all (list_any (true_on (state_of self.now).trail)) (state_of self.now).book) ClauseNotTrue (Ok tt)))) }
+        ensures { result ≡ may_end (claims_of self.now) (state_of self.now) }
     {
         self.check_calm()?;
         if !self.trail.is_full() {

@@ -1,6 +1,6 @@
 //! Opening a table.
 ghost use Rattle.std.specs.Prelude.{◌≡◌, IfOk, min};
-ghost use Rattle.rules.specs.Rules.{opened};
+ghost use Rattle.rules.specs.States.{opened};
 ghost use Rattle.clauses.specs.Rows.{Reads};
 ghost use Rattle.table.specs.Tables.{state_of, claims_of};
 

@@ -1,11 +1,10 @@
 //! The steps, as far as they need no theory.
 ghost use Rattle.std.specs.Prelude.{◌≡◌, ◌+◌, ◌<◌, map, set, Ok};
 ghost use Rattle.clauses.specs.Stored.{clause_of};
-ghost use Rattle.rules.specs.declared.entry.Reason.TheVariants.{Theory};
 ghost use Rattle.rules.specs.declared.step.Verdict.TheVariants as verdict;
-ghost use Rattle.rules.specs.Rules.{unless_over, fresh, longer, ending, decide, propagate, conflict, resolve, jump, forget, no_fit, says, leaves};
-ghost use Rattle.table.specs.Tables.{state_of, claims_of, blames_of, stored};
-ghost use Rattle.table.specs.Steps.{counted, clashing, implied};
+ghost use Rattle.rules.specs.Rules.{ending, decide, propagate, conflict, resolve, jump, forget, no_fit};
+ghost use Rattle.table.specs.Tables.{state_of, claims_of, blames_of, stored_in};
+ghost use Rattle.table.specs.Steps.{counted, clashing, Steps, Implies};
 
 use crate::table::Table;
 use crate::table::checks::{has, is_free, live, reason};
@@ -17,10 +16,7 @@ use theory::literal::complement_of;
 impl Table {
     /// A literal is assumed.
     pub fn decide(&mut self, l: Literal) -> Result<u32, Refusal>
-        ensures claims { claims_of self.new ≡ claims_of self.old }
-        ensures blames { blames_of self.new ≡ blames_of self.old }
-        ensures says { result ≡ says (unless_over (state_of self.old) (decide (claims_of self.old) (state_of self.old) l)) }
-        ensures state { state_of self.new ≡ leaves (state_of self.old) (unless_over (state_of self.old) (decide (claims_of self.old) (state_of self.old) l)) }
+        ensures { Steps self.old self.new result (λ n s. decide n s l) }
     {
         self.check_calm()?;
         self.trail.push(l, Reason::Decided)?;
@@ -29,10 +25,7 @@ impl Table {
 
     /// A literal follows by a clause.
     pub fn propagate(&mut self, c: u16, l: Literal) -> Result<u32, Refusal>
-        ensures claims { claims_of self.new ≡ claims_of self.old }
-        ensures blames { blames_of self.new ≡ blames_of self.old }
-        ensures says { result ≡ says (unless_over (state_of self.old) (propagate (claims_of self.old) (state_of self.old) c l)) }
-        ensures state { state_of self.new ≡ leaves (state_of self.old) (unless_over (state_of self.old) (propagate (claims_of self.old) (state_of self.old) c l)) }
+        ensures { Steps self.old self.new result (λ n s. propagate n s c l) }
     {
         self.check_fresh(l)?;
         let clause = live(&self.book, &self.learned, c).ok_or(Refusal::NotLive)?;
@@ -49,13 +42,10 @@ impl Table {
     /// A literal follows by the theory, for which it blames the core of the trail and the literal's
     /// complement.
     pub fn imply(&mut self, l: Literal, core: &[u16]) -> Result<u32, Refusal>
-        ensures claims { claims_of self.new ≡ claims_of self.old }
-        ensures blames { blames_of self.new ≡ implied (claims_of self.old) (state_of self.old) l core.now (blames_of self.old) }
-        ensures says { result ≡ says (unless_over (state_of self.old) (fresh (claims_of self.old) (state_of self.old) l (Ok (longer (state_of self.old) l Theory)))) }
-        ensures state { state_of self.new ≡ leaves (state_of self.old) (unless_over (state_of self.old) (fresh (claims_of self.old) (state_of self.old) l (Ok (longer (state_of self.old) l Theory)))) }
+        ensures { Implies self.old self.new result l core.now }
     {
         self.check_calm()?;
-        let p = self.trail.entries().len();
+        let p = self.trail.len();
         let clause = self.trail.blame(complement_of(l), core);
         self.trail.push(l, Reason::Theory)?;
         store(&mut self.blames, p, clause);
@@ -64,10 +54,7 @@ impl Table {
 
     /// A clause is false.
     pub fn conflict(&mut self, c: u16) -> Result<u32, Refusal>
-        ensures claims { claims_of self.new ≡ claims_of self.old }
-        ensures blames { blames_of self.new ≡ blames_of self.old }
-        ensures says { result ≡ says (unless_over (state_of self.old) (conflict (state_of self.old) c)) }
-        ensures state { state_of self.new ≡ leaves (state_of self.old) (unless_over (state_of self.old) (conflict (state_of self.old) c)) }
+        ensures { Steps self.old self.new result (λ n s. conflict s c) }
     {
         self.check_calm()?;
         let clause = live(&self.book, &self.learned, c).ok_or(Refusal::NotLive)?;
@@ -80,10 +67,7 @@ impl Table {
 
     /// The theory finds the trail impossible, with this core.
     pub fn clash(&mut self, core: &[u16]) -> Result<u32, Refusal>
-        ensures claims { claims_of self.new ≡ claims_of self.old }
-        ensures blames { blames_of self.new ≡ blames_of self.old }
-        ensures says { result ≡ says (unless_over (state_of self.old) (clashing (state_of self.old) core.now)) }
-        ensures state { state_of self.new ≡ leaves (state_of self.old) (unless_over (state_of self.old) (clashing (state_of self.old) core.now)) }
+        ensures { Steps self.old self.new result (λ n s. clashing s core.now) }
     {
         self.check_calm()?;
         let clause = self.trail.blame(0, core);
@@ -93,10 +77,7 @@ impl Table {
 
     /// The conflict's latest literal gives way to what it followed from.
     pub fn resolve(&mut self) -> Result<u32, Refusal>
-        ensures claims { claims_of self.new ≡ claims_of self.old }
-        ensures blames { blames_of self.new ≡ blames_of self.old }
-        ensures says { result ≡ says (unless_over (state_of self.old) (resolve (stored (blames_of self.old)) (state_of self.old))) }
-        ensures state { state_of self.new ≡ leaves (state_of self.old) (unless_over (state_of self.old) (resolve (stored (blames_of self.old)) (state_of self.old))) }
+        ensures { Steps self.old self.new result (λ n s. resolve (stored_in self.old) s) }
     {
         self.check()?;
         let Some(conflict) = &mut self.conflict else {
@@ -115,10 +96,7 @@ impl Table {
     /// The trail is cut to the level `k`, and the conflict becomes the clause `c`, by which its one literal above
     /// follows.
     pub fn jump(&mut self, k: u32, c: u16) -> Result<u32, Refusal>
-        ensures claims { claims_of self.new ≡ claims_of self.old }
-        ensures blames { blames_of self.new ≡ blames_of self.old }
-        ensures says { result ≡ says (unless_over (state_of self.old) (jump (state_of self.old) k c)) }
-        ensures state { state_of self.new ≡ leaves (state_of self.old) (unless_over (state_of self.old) (jump (state_of self.old) k c)) }
+        ensures { Steps self.old self.new result (λ n s. jump s k c) }
     {
         self.check()?;
         let Some(conflict) = &self.conflict else {
@@ -140,10 +118,7 @@ impl Table {
 
     /// A learned clause is live no more.
     pub fn forget(&mut self, c: u16) -> Result<u32, Refusal>
-        ensures claims { claims_of self.new ≡ claims_of self.old }
-        ensures blames { blames_of self.new ≡ blames_of self.old }
-        ensures says { result ≡ says (unless_over (state_of self.old) (forget (state_of self.old) c)) }
-        ensures state { state_of self.new ≡ leaves (state_of self.old) (unless_over (state_of self.old) (forget (state_of self.old) c)) }
+        ensures { Steps self.old self.new result (λ n s. forget s c) }
     {
         self.check()?;
         if live(&self.book, &self.learned, c).is_none() {
@@ -161,10 +136,7 @@ impl Table {
 
     /// No fit keeps the book: the conflict is empty.
     pub fn no_fit(&mut self) -> Result<u32, Refusal>
-        ensures claims { claims_of self.new ≡ claims_of self.old }
-        ensures blames { blames_of self.new ≡ blames_of self.old }
-        ensures says { result ≡ says (unless_over (state_of self.old) (no_fit (state_of self.old))) }
-        ensures state { state_of self.new ≡ leaves (state_of self.old) (unless_over (state_of self.old) (no_fit (state_of self.old))) }
+        ensures { Steps self.old self.new result (λ n s. no_fit s) }
     {
         self.check()?;
         let conflict = self.conflict.as_ref().ok_or(Refusal::NoConflict)?;
@@ -177,10 +149,7 @@ impl Table {
 
     /// The trail is a fit, as the caller knows of the theory.
     pub fn fit(&mut self) -> Result<u32, Refusal>
-        ensures claims { claims_of self.new ≡ claims_of self.old }
-        ensures blames { blames_of self.new ≡ blames_of self.old }
-        ensures says { result ≡ says (unless_over (state_of self.old) (Ok (ending (state_of self.old) verdict.Fit))) }
-        ensures state { state_of self.new ≡ leaves (state_of self.old) (unless_over (state_of self.old) (Ok (ending (state_of self.old) verdict.Fit))) }
+        ensures { Steps self.old self.new result (λ n s. Ok (ending s verdict.Fit)) }
     {
         self.check()?;
         self.verdict = Some(Verdict::Fit);

@@ -1,13 +1,12 @@
 //! What is asked of a trail.
-ghost use Rattle.std.specs.Prelude.{◌≡◌, ◌*◌, ◌==◌, ◌||◌, reverse, length, take};
+ghost use Rattle.std.specs.Prelude.{◌≡◌, ◌==◌, ◌||◌, slice_get, length};
 ghost use Rattle.std.specs.List.{list_all, list_any};
-ghost use Rattle.theory.specs.Literals.{names};
-ghost use Rattle.rules.specs.Clauses.{all_below};
-ghost use Rattle.rules.specs.Rules.{literals, asserted, true_on, false_on, is_reason};
+ghost use Rattle.rules.specs.States.{level};
+ghost use Rattle.rules.specs.Rules.{true_on, false_on, is_reason, full};
 ghost use Rattle.clauses.specs.Sets.{members};
 ghost use Rattle.clauses.specs.Stored.{clause_of};
-ghost use Rattle.trail.specs.Kept.{Leveled};
-ghost use Rattle.trail.specs.Trails.{claims_of, trail_of, push_says, latest_at, sole_above, blamed};
+ghost use Rattle.trail.specs.Positions.{entry_at, level_at, position_of};
+ghost use Rattle.trail.specs.Trails.{claims_of, trail_of, push_says, latest_at, sole_above, blamed_on};
 
 use crate::trail::Trail;
 use clauses::{LiteralSet, StoredClause};
@@ -23,26 +22,54 @@ impl Trail {
         self.claims
     }
 
-    /// The entries, the oldest first.
-    pub fn entries(&self) -> &[Entry]
-        ensures { reverse result.now ≡ trail_of self.now }
+    /// How many entries there are.
+    pub fn len(&self) -> usize
+        ensures { result ≡ length (trail_of self.now) }
     {
-        &self.entries
+        self.entries.len()
     }
 
-    /// The level of each entry.
-    pub fn levels(&self) -> &[u32]
-        ensures long { length result.now ≡ length (trail_of self.now) }
-        ensures levels { Leveled result.now (reverse (trail_of self.now)) }
+    /// The entry at a position.
+    pub fn entry(&self, p: usize) -> Option<Entry>
+        ensures { result ≡ entry_at (trail_of self.now) p }
     {
-        &self.levels
+        self.entries.get(p).copied()
+    }
+
+    /// The latest entry.
+    pub fn last(&self) -> Option<Entry>
+        ensures { result ≡ slice_get (trail_of self.now) 0 }
+    {
+        self.entries.last().copied()
+    }
+
+    /// The level of the entry at a position.
+    pub fn level_at(&self, p: usize) -> Option<u32>
+        ensures { result ≡ level_at (trail_of self.now) p }
+    {
+        self.levels.get(p).copied()
+    }
+
+    /// The level of the latest entry.
+    pub fn level(&self) -> u32
+        ensures { result ≡ level (trail_of self.now) }
+    {
+        self.levels.last().copied().unwrap_or(0)
+    }
+
+    /// The position of a literal, if it is on the trail.
+    pub fn position(&self, l: Literal) -> Option<usize>
+        ensures { result ≡ position_of (trail_of self.now) l }
+    {
+        let p = self.places.get(usize::from(l)).copied().flatten()?;
+        Some(p as usize)
     }
 
     /// Whether a literal is on the trail.
     pub fn is_true(&self, l: Literal) -> bool
         ensures { result ≡ true_on (trail_of self.now) l }
     {
-        self.places.get(usize::from(l)).copied().flatten().is_some()
+        self.position(l).is_some()
     }
 
     /// Whether its complement is.
@@ -75,10 +102,10 @@ impl Trail {
 
     /// Whether every claim is on the trail.
     pub fn is_full(&self) -> bool
-        ensures { result ≡ all_below (claims_of self.now) (λ i. names (literals (trail_of self.now)) (2 * i)) }
+        ensures { result ≡ full (claims_of self.now) (trail_of self.now) }
     {
         // No claim is there twice.
-        self.entries.len() == self.claims
+        self.len() == self.claims
     }
 
     /// Whether a literal may be put on the trail.
@@ -138,7 +165,7 @@ impl Trail {
     /// The complements of the literals at a core's positions, where `next` comes after the trail's
     /// literals.
     pub fn blame(&self, next: Literal, core: &[u16]) -> StoredClause
-        ensures { clause_of result ≡ take 256 (blamed (asserted (trail_of self.now)) next core.now) }
+        ensures { clause_of result ≡ blamed_on self.now next core.now }
     {
         let mut clause = StoredClause::empty();
         for p in core {

@@ -1,7 +1,7 @@
 //! How a trail changes.
 ghost use Rattle.std.specs.Prelude.{◌≡◌, [], IfOk, min, drop};
-ghost use Rattle.rules.specs.Rules.{up_to, level};
-ghost use Rattle.trail.specs.Trails.{claims_of, trail_of, push_says, push_leaves};
+ghost use Rattle.rules.specs.Rules.{up_to};
+ghost use Rattle.trail.specs.Trails.{claims_of, trail_of, push_says, pushed};
 
 use crate::trail::Trail;
 use rules::{Entry, Reason, Refusal};
@@ -30,7 +30,7 @@ impl Trail {
     pub fn push(&mut self, l: Literal, reason: Reason) -> Result<(), Refusal>
         ensures claims { claims_of self.new ≡ claims_of self.old }
         ensures says { result ≡ push_says (claims_of self.old) (trail_of self.old) l }
-        ensures trail { trail_of self.new ≡ push_leaves (claims_of self.old) (trail_of self.old) l reason }
+        ensures trail { trail_of self.new ≡ pushed self.old l reason }
     {
         self.check(l)?;
         let level = match reason {
@@ -51,16 +51,6 @@ impl Trail {
     {
         while self.level() > k {
             self.pop();
-        }
-    }
-
-    /// The level of the latest entry.
-    fn level(&self) -> u32
-        ensures { result ≡ level (trail_of self.now) }
-    {
-        match self.levels.last() {
-            Some(level) => *level,
-            None => 0,
         }
     }
 

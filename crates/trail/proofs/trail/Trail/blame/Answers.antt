@@ -1,7 +1,7 @@
 use Rattle.std.proofs.Common.{◌≡◌, ◌++◌, ◌∷◌, [], ℕ, get_or, take, reverse, List, ap, ◌∙◌}
 use Rattle.std.proofs.lemmas.List.{take_all}
 use Rattle.rules.specs.declared.entry.Entry.{Entry}
-use Rattle.rules.specs.Rules.{asserted}
+use Rattle.rules.specs.States.{asserted}
 use Rattle.clauses.specs.Stored.{clause_of}
 use Rattle.trail.specs.Trails.{trail_of, blamed}
 use Rattle.trail.proofs.Looking.{named_entry, named_next, blamed_more}

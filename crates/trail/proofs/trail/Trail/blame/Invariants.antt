@@ -1,5 +1,5 @@
 use Rattle.std.proofs.Common.{◌≡◌, take}
-use Rattle.rules.specs.Rules.{asserted}
+use Rattle.rules.specs.States.{asserted}
 use Rattle.clauses.specs.Stored.{clause_of}
 use Rattle.trail.specs.Trails.{trail_of, blamed}
 use Rattle.trail.proofs.trail.Trail.blame.Given as goal

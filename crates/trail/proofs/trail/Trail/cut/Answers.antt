@@ -1,5 +1,6 @@
 use Rattle.std.proofs.Common.{◌<◌, length, sym, ap, ◌∙◌, arith}
-use Rattle.rules.specs.Rules.{up_to, level}
+use Rattle.rules.specs.States.{level}
+use Rattle.rules.specs.Rules.{up_to}
 use Rattle.trail.specs.Trails.{trail_of}
 use Rattle.trail.proofs.Kept.{up_to_more, up_to_stop, pop_fewer}
 use Rattle.trail.proofs.trail.Trail.cut.Goals as goal

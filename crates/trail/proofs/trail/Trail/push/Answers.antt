@@ -2,7 +2,7 @@ use Rattle.std.proofs.Common.{◌≡◌, ℕ, ◌+◌, ◌<◌, ⊎_elim, Some, 
 use Rattle.std.proofs.lemmas.List.{length_push, length-reverse}
 use Rattle.rules.specs.declared.entry.Entry.{Entry}
 use Rattle.rules.specs.declared.entry.Reason.{Reason}
-use Rattle.rules.specs.Rules.{decisions, level}
+use Rattle.rules.specs.States.{decisions, level}
 use Rattle.rules.proofs.Trails.{Takes, proper_length}
 use Rattle.trail.specs.declared.trail.Trail.{Trail}
 use Rattle.trail.specs.Trails.{trail_of}

@@ -2,7 +2,8 @@ use Rattle.std.proofs.Common.{◌≡◌, ◌≤◌, ◌<◌, ◌-◌, ℕ, Bool,
 use Rattle.std.proofs.lemmas.List.{get_or_read}
 use Rattle.theory.specs.Literals.{complement, has}
 use Rattle.rules.specs.declared.entry.Entry.{Entry}
-use Rattle.rules.specs.Rules.{level, hit}
+use Rattle.rules.specs.States.{level}
+use Rattle.rules.specs.Rules.{hit}
 use Rattle.clauses.specs.Sets.{members}
 use Rattle.trail.specs.Trails.{sole_above}
 use Rattle.trail.specs.declared.trail.Trail.{Trail}

@@ -1,0 +1,10 @@
+use Rattle.std.proofs.Common.{◌≡◌, true, false, is_none, rules, tests}
+use Rattle.std.proofs.lemmas.Iterator.{first_from_Range}
+use Rattle.rules.specs.Rules.{live_in}
+use Rattle.table.specs.Tables.{state_of}
+use Rattle.table.proofs.table.Table.first_free.Goals as goal
+
+pub returns : goal.returns
+returns c =
+    let s = state_of c.args.self.now in
+    first_from_Range _ _ _ _ (λ k. is_none (live_in s k) ≡ true) (λ k. is_none (live_in s k) ≡ false) c.find.ensures.ran (λ x q k. search (rules, tests)) (λ x q k. search (rules, tests))
