@@ -14,7 +14,7 @@ use Rattle.history.specs.Asking.{Asked, found_len}
 use Rattle.history.proofs.Blames.{rising_few}
 
 -- with room for a core the answer is told
-pub asked : (M : Meaning) (xs old new : List ℕ) (r : Told Found) → M.claims ≤ length old → r ≡ query_says M xs old → new ≡ query_leaves M xs old → Asked M xs new (found_len r)
+pub asked : (M : Meaning) (xs old new : List ℕ) (r : Told Found) → M.claims ≤ length old → r ≡ query_says M.claims (M.answer xs) old → new ≡ query_leaves M.claims (M.answer xs) old → Asked M xs new (found_len r)
 asked M xs old new r room e f = go (ltb (length old) M.claims) (M.answer xs) r refl (le-ltb (length old) M.claims room) e f
   where
     go : (b : Bool) (a : Answer) (r : Told Found) → M.answer xs ≡ a → b ≡ false → r ≡ cond b (Err ShortCorePlace) (Ok (told a)) → new ≡ cond b old (core_over a old) → Asked M xs new (found_len r)
@@ -24,11 +24,11 @@ asked M xs old new r room e f = go (ltb (length old) M.claims) (M.answer xs) r r
 
 -- and so it is under a trial
 pub asked_with : (M : Meaning) (xs old new : List ℕ) (l : ℕ) (r : Told Found) → M.claims ≤ length old → l < 2 * M.claims → names xs l ≡ false
-    → r ≡ trial_query_says M xs l old → new ≡ trial_query_leaves M xs l old → Asked M (xs ++ l ∷ []) new (found_len r)
+    → r ≡ trial_query_says M.claims M.answer xs l old → new ≡ trial_query_leaves M.claims M.answer xs l old → Asked M (xs ++ l ∷ []) new (found_len r)
 asked_with M xs old new l r room h n e f = go (ltb l (2 * M.claims)) (names xs l) (lt-ltb l (2 * M.claims) h) n e f
   where
-    go : (a b : Bool) → a ≡ true → b ≡ false → r ≡ cond a (cond b (Err ClaimOnList) (query_says M (xs ++ l ∷ []) old)) (Err NoSuchLiteral)
-        → new ≡ cond a (cond b old (query_leaves M (xs ++ l ∷ []) old)) old → Asked M (xs ++ l ∷ []) new (found_len r)
+    go : (a b : Bool) → a ≡ true → b ≡ false → r ≡ cond a (cond b (Err ClaimOnList) (query_says M.claims (M.answer (xs ++ l ∷ [])) old)) (Err NoSuchLiteral)
+        → new ≡ cond a (cond b old (query_leaves M.claims (M.answer (xs ++ l ∷ [])) old)) old → Asked M (xs ++ l ∷ []) new (found_len r)
     go true true p q e f = absurd (true≢false q)
     go true false p q e f = asked M (xs ++ l ∷ []) old new r room e f
     go false b p q e f = absurd (true≢false (sym p))
@@ -50,7 +50,7 @@ possible_is possible e = refl
 possible_is (impossible core) e = cc
 
 -- no core has more positions than there are claims
-pub few_found : (M : Meaning) → Lawful M → (xs old : List ℕ) (r : Told Found) → Proper M.claims xs → r ≡ query_says M xs old → IfSome (found_len r) (λ len. len ≤ 128)
+pub few_found : (M : Meaning) → Lawful M → (xs old : List ℕ) (r : Told Found) → Proper M.claims xs → r ≡ query_says M.claims (M.answer xs) old → IfSome (found_len r) (λ len. len ≤ 128)
 few_found M law xs old r p e = go (ltb (length old) M.claims) (M.answer xs) r refl e
   where
     go : (b : Bool) (a : Answer) (r : Told Found) → M.answer xs ≡ a → r ≡ cond b (Err ShortCorePlace) (Ok (told a)) → IfSome (found_len r) (λ len. len ≤ 128)
@@ -58,11 +58,11 @@ few_found M law xs old r p e = go (ltb (length old) M.claims) (M.answer xs) r re
     go false possible r q e = rw e tt
     go false (impossible core) r q e = rw e (omega (arith, rising_few (length xs) core (law.core_rises xs core p q), proper_few M.claims xs p, law.few_claims))
 
-pub few_found_with : (M : Meaning) → Lawful M → (xs old : List ℕ) (l : ℕ) (r : Told Found) → Proper M.claims xs → l < 2 * M.claims → names xs l ≡ false → r ≡ trial_query_says M xs l old
+pub few_found_with : (M : Meaning) → Lawful M → (xs old : List ℕ) (l : ℕ) (r : Told Found) → Proper M.claims xs → l < 2 * M.claims → names xs l ≡ false → r ≡ trial_query_says M.claims M.answer xs l old
     → IfSome (found_len r) (λ len. len ≤ 128)
 few_found_with M law xs old l r p h n e = go (ltb l (2 * M.claims)) (names xs l) (lt-ltb l (2 * M.claims) h) n e
   where
-    go : (a b : Bool) → a ≡ true → b ≡ false → r ≡ cond a (cond b (Err ClaimOnList) (query_says M (xs ++ l ∷ []) old)) (Err NoSuchLiteral) → IfSome (found_len r) (λ len. len ≤ 128)
+    go : (a b : Bool) → a ≡ true → b ≡ false → r ≡ cond a (cond b (Err ClaimOnList) (query_says M.claims (M.answer (xs ++ l ∷ [])) old)) (Err NoSuchLiteral) → IfSome (found_len r) (λ len. len ≤ 128)
     go true true q s e = absurd (true≢false s)
     go true false q s e = few_found M law (xs ++ l ∷ []) old r (proper_push M.claims xs l p h n) e
     go false b q s e = absurd (true≢false (sym q))

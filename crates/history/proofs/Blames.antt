@@ -1,5 +1,5 @@
 -- That what is stored for the entries of a trail stands for what the theory blames. Assumes nothing.
-use Rattle.std.proofs.Common.{◌≡◌, ℕ, zero, suc, ◌+◌, ◌<◌, ◌≤◌, Bool, true, false, cond, leb, List, [], ◌∷◌, ◌++◌, map, length, take, drop, set, get_or, slice_get, slice_index, Option, Some, None, Result, Ok, sym, refl, ap, ◌∙◌, subst, arith}
+use Rattle.std.proofs.Common.{◌≡◌, ℕ, zero, suc, ◌+◌, ◌<◌, ◌≤◌, Bool, true, false, cond, eqb, leb, List, [], ◌∷◌, ◌++◌, map, length, take, drop, set, get_or, slice_get, slice_index, Option, Some, None, Result, Ok, sym, refl, ap, ◌∙◌, subst, arith}
 use Rattle.std.proofs.lemmas.List.{take_all, take-append-le, length-drop, length-map, drop-drop}
 use Rattle.theory.specs.Literals.{complement}
 use Rattle.theory.specs.Meaning.{Meaning, Rising}
@@ -8,10 +8,12 @@ use Rattle.rules.specs.declared.entry.Reason.{Reason}
 use Rattle.rules.specs.declared.entry.Reason.TheVariants.{Decided, Clause, Theory}
 use Rattle.rules.specs.declared.refusal.Refusal.{Refusal}
 use Rattle.rules.specs.declared.refusal.Refusal.TheVariants.{NoConflict, ConflictEmpty, LatestDecided}
-use Rattle.rules.specs.Rules.{State, asserted, level, up_to, hit, latest, live_in, theory_blames, explained, resolving, given, resolve}
+use Rattle.rules.specs.States.{State, asserted, level}
+use Rattle.rules.specs.Rules.{up_to, hit, latest, live_in, theory_blames, explained, resolving, given, resolve}
 use Rattle.rules.proofs.Trails.{asserted_length}
 use Rattle.trail.specs.Trails.{blamed}
 use Rattle.table.specs.Tables.{stored}
+use Rattle.table.specs.Explained.{explained_at}
 use Rattle.history.specs.Links.{Explains}
 
 -- ---- entries that need nothing new
@@ -70,6 +72,17 @@ explained_same : (M : Meaning) (blames : List (List ℕ)) (clause_at : ℕ → O
 explained_same M blames clause_at Decided l t h = refl
 explained_same M blames clause_at (Clause c) l t h = refl
 explained_same M blames clause_at Theory l t h = sym (h refl)
+
+pub explained_at_same : (M : Meaning) (blames : List (List ℕ)) (clause_at : ℕ → Option (List ℕ)) (t : List Entry) → Explains M blames t → (p : ℕ)
+    → explained_at (stored blames) clause_at t p ≡ explained_at (theory_blames M) clause_at t p
+explained_at_same M blames clause_at [] h p = refl
+explained_at_same M blames clause_at (e ∷ t) h p = go (eqb p (length t)) (explained_at_same M blames clause_at t (λ k. h (suc k)) p)
+  where
+    go : (b : Bool) → explained_at (stored blames) clause_at t p ≡ explained_at (theory_blames M) clause_at t p
+        → cond b (explained (stored blames) clause_at e.reason e.literal t) (explained_at (stored blames) clause_at t p)
+        ≡ cond b (explained (theory_blames M) clause_at e.reason e.literal t) (explained_at (theory_blames M) clause_at t p)
+    go true rest = explained_same M blames clause_at e.reason e.literal t (h 0 e t refl)
+    go false rest = rest
 
 pub resolve_same : (M : Meaning) (blames : List (List ℕ)) (s : State) → Explains M blames s.trail → resolve (stored blames) s ≡ resolve (theory_blames M) s
 resolve_same M blames s h =

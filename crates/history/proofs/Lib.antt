@@ -3,3 +3,7 @@ pub mod Blames
 pub mod Links
 pub mod Steps
 pub mod Playing
+pub mod Runs
+pub mod Law
+pub mod Reading
+pub mod Next

@@ -14,7 +14,9 @@ use Rattle.rules.specs.declared.refusal.Refusal.{Refusal}
 use Rattle.rules.specs.declared.refusal.Refusal.TheVariants.{VerdictStands, AllowanceUsed, ConflictStands, ClaimOnTrail, ClaimOffTrail, ClauseNotTrue, TrailPossible}
 use Rattle.rules.specs.declared.refusal.Refusal.TheVariants as refusal
 use Rattle.rules.specs.declared.step.Step.{Step}
-use Rattle.rules.specs.Rules.{State, Outcome, blame, true_on, conflicting, demand, given, without, clash, literals, asserted, false_on, false_but, latest, live_in, is_learned, is_reason, theory_blames, explained, fresh, unless_over, decide, propagate, conflict, resolve, forget, no_fit, says, says as told_of, leaves, after}
+use Rattle.rules.specs.States.{State, literals, asserted, Outcome, says, says as told_of, leaves}
+use Rattle.rules.specs.Rules.{blame, true_on, conflicting, demand, given, without, clash, false_on, false_but, latest, live_in, is_learned, is_reason, theory_blames, explained, fresh, unless_over, decide, propagate, conflict, resolve, forget, no_fit}
+use Rattle.rules.specs.Runs.{after}
 use Rattle.rules.specs.Clauses.{all_below}
 use Rattle.rules.specs.Histories.{Reached}
 use Rattle.rules.proofs.Accepted.{Leads, Fresh, on_demand, on_given, on_without, on_fresh}
@@ -23,7 +25,7 @@ use Rattle.rules.proofs.Trails.{asserted_names, complement_named}
 use Rattle.trail.specs.Trails.{blamed}
 use Rattle.table.specs.declared.table.Table.{Table}
 use Rattle.table.specs.Tables.{state_of, claims_of, blames_of}
-use Rattle.table.specs.Steps.{clashing}
+use Rattle.table.specs.Steps.{complete, clashing}
 use Rattle.history.specs.Links.{Explains, Linked}
 use Rattle.history.proofs.Blames.{explains_push, rising_few, blamed_whole, blamed_last}
 
@@ -178,13 +180,7 @@ fresh_then n s l o e = go (is_none s.verdict) (not (eqb s.count s.allowance)) s.
     go true false C a b = refl
     go false c C a b = refl
 
--- the checks of a fit that need no theory
-abbrev pub complete : {A : Type 0} → ℕ → State → Result A Refusal → Result A Refusal
-complete n s o =
-    without s.conflict ConflictStands (demand (all_below n (λ i. names (literals s.trail) (2 * i))) ClaimOffTrail
-    (demand (list_all (list_any (true_on s.trail)) s.book) ClauseNotTrue o))
-
--- and after them
+-- and after those of a fit that need no theory
 pub complete_then : (n : ℕ) (s : State) (o : Outcome) {checks : Result (Unit {0}) Refusal} → checks ≡ unless_over s (complete n s (Ok tt)) → unless_over s (complete n s o) ≡ and_then checks o
 complete_then n s o e =
     go (is_none s.verdict) (not (eqb s.count s.allowance)) s.conflict (all_below n (λ i. names (literals s.trail) (2 * i))) (list_all (list_any (true_on s.trail)) s.book) ∙ ap (λ c. and_then c o) (sym e)

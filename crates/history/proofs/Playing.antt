@@ -4,7 +4,9 @@ use Rattle.std.proofs.lemmas.List.{append_assoc, append-nil, drop_all, length_pu
 use Rattle.theory.specs.Meaning.{Meaning}
 use Rattle.rules.specs.declared.refusal.Refusal.{Refusal}
 use Rattle.rules.specs.declared.step.Step.{Step}
-use Rattle.rules.specs.Rules.{State, opened, judge, says, after, run, answers}
+use Rattle.rules.specs.States.{State, opened, says}
+use Rattle.rules.specs.Rules.{judge}
+use Rattle.rules.specs.Runs.{after, run, answers}
 use Rattle.rules.proofs.Accepted.{accepted_next, run_keeps}
 use Rattle.history.specs.Fits.{within, fit_over}
 use Rattle.history.specs.Replays.{place_after, judged_as}
@@ -40,7 +42,7 @@ playing_step M {book0} steps place0 s s' told told' place place' i x here to mor
       ∙ ap (λ z. place_after M s z place) (sym here) ∙ p.filled;
   counted = ap length more ∙ length_push told (says (judge M s x)) ∙ ap (λ (n : ℕ). n + 1) p.counted;
   long = same ∙ p.long;
-  book = ap (λ z. z.book) to ∙ run_keeps M (λ z. z.book ≡ book0) (λ z z' q g a. (accepted_next a).book ∙ q) (x ∷ []) s p.book;
+  book = ap (λ z. z.book) to ∙ run_keeps M (λ z. z.book ≡ book0) (λ z z' x q g a. (accepted_next a).book ∙ q) (x ∷ []) s p.book;
 }
 
 -- and at their end

@@ -1,6 +1,6 @@
 -- The steps that a theory has a part in, and those that what is stored has a part in. Assumes nothing.
-use Rattle.std.proofs.Common.{◌≡◌, ℕ, ◌*◌, ◌≤◌, Bool, true, false, cond, not, ◌&&◌, eqb, leb, ltb, filter, is_none, List, [], ◌∷◌, ◌++◌, length, take, drop, set, reverse, Result, Ok, Err, ℤ, sym, refl, ap, ◌∙◌, subst, arith}
-use Rattle.std.proofs.lemmas.List.{length_push, length-reverse, length-take-le, reverse-append, append_assoc, take-append-drop, drop-append-le}
+use Rattle.std.proofs.Common.{◌≡◌, ℕ, ◌-◌, ◌*◌, ◌≤◌, Bool, true, false, cond, not, ◌&&◌, eqb, leb, ltb, filter, is_none, slice_get, Some, List, [], ◌∷◌, ◌++◌, length, take, drop, set, Result, Ok, Err, ℤ, sym, refl, ap, ◌∙◌, subst, arith}
+use Rattle.std.proofs.lemmas.List.{length_push, length-take-le, append_assoc, take-append-drop, drop-append-le}
 use Rattle.std.proofs.lemmas.Bool.{le-leb, leb-true}
 use Rattle.std.specs.List.{list_all, list_any}
 use Rattle.theory.specs.Literals.{complement, names, Proper}
@@ -16,7 +16,9 @@ use Rattle.rules.specs.declared.refusal.Refusal.TheVariants.{VerdictStands, Allo
 use Rattle.rules.specs.declared.step.Step.TheVariants as step
 use Rattle.rules.specs.declared.step.Verdict.TheVariants as verdict
 use Rattle.rules.specs.Clauses.{all_below, only}
-use Rattle.rules.specs.Rules.{State, Outcome, blame, clash, theory_blames, true_on, is_possible, is_learned, live_in, literals, asserted, above, up_to, hit, longer, ending, demand, fresh, unless_over, imply, resolve, jump, fit, says, leaves, after, judge}
+use Rattle.rules.specs.States.{State, literals, asserted, Outcome, says, leaves}
+use Rattle.rules.specs.Rules.{blame, clash, theory_blames, true_on, is_possible, is_learned, live_in, above, up_to, hit, longer, ending, demand, fresh, unless_over, imply, resolve, jump, fit, judge}
+use Rattle.rules.specs.Runs.{after}
 use Rattle.rules.specs.Histories.{Reached}
 use Rattle.rules.proofs.Accepted.{Leads, Fresh, on_demand, on_given, on_without, on_fresh}
 use Rattle.rules.proofs.Reached.{reached_after, reached_trail}
@@ -24,17 +26,17 @@ use Rattle.rules.proofs.Trails.{asserted_names, asserted_length, latest_goes}
 use Rattle.trail.specs.Trails.{blamed}
 use Rattle.table.specs.declared.table.Table.{Table}
 use Rattle.table.specs.Tables.{state_of, claims_of, blames_of, stored}
-use Rattle.table.specs.Steps.{clashing, implied, if_allowed}
+use Rattle.table.specs.Steps.{may_enter, complete, clashing, implied, if_allowed}
 use Rattle.history.specs.Links.{Explains, Linked}
 use Rattle.history.specs.Fits.{written}
 use Rattle.history.proofs.Asking.{possible_is}
 use Rattle.history.proofs.Blames.{explains_push, explains_end, explains_implied, cut_end, cut_asserted, resolve_same}
-use Rattle.history.proofs.Links.{counted_left, taken, on_open, SameTrail, neutral, resolve_stays, stays, grows, fresh_then, complete, complete_then, clash_same, implied_blames}
+use Rattle.history.proofs.Links.{counted_left, taken, on_open, SameTrail, neutral, resolve_stays, stays, grows, fresh_then, complete_then, clash_same, implied_blames}
 
 -- ---- a fit
 
 -- where a fit is written, the list is possible
-pub written_possible : (M : Meaning) (xs : List ℕ) (place : List ℤ) → Ok tt ≡ write_says M xs place → is_possible (M.answer xs) ≡ true
+pub written_possible : (M : Meaning) (xs : List ℕ) (place : List ℤ) → Ok tt ≡ write_says M.terms (M.answer xs) place → is_possible (M.answer xs) ≡ true
 written_possible M xs place e = go (ltb (length place) M.terms) (M.answer xs) e
   where
     go : (b : Bool) (a : Answer) → ◌≡◌ {A = Told (Unit {0})} (Ok tt) (cond b (Err theory_refusal.ShortFitPlace) (fit_says a)) → is_possible a ≡ true
@@ -96,6 +98,11 @@ pub imply_same : (M : Meaning) (s : State) (l : ℕ) → is_possible (M.answer (
 imply_same M s l p q =
     ap (λ a. fresh M.claims s l (demand a TrailImpossible (demand (not (is_possible (M.answer (asserted s.trail ++ complement l ∷ [])))) NotImplied (Ok (longer s l Theory))))) p
     ∙ ap (λ b. fresh M.claims s l (demand (not b) NotImplied (Ok (longer s l Theory)))) q
+
+-- and where a check on the literal fails, the step is refused
+pub unready : {M : Meaning} {xs : List ℕ} {t : Table} {sure : Bool} → Linked M xs t sure → (l : ℕ) (o : Outcome) {r : Refusal} → Err r ≡ may_enter (claims_of t) (state_of t) l
+    → unless_over (state_of t) (fresh M.claims (state_of t) l o) ≡ Err r
+unready {M} {xs} {t} k l o e = fresh_then M.claims (state_of t) l o (e ∙ ap (λ n. may_enter n (state_of t) l) (sym k.claims))
 
 always : {X : Type 0} (o : Result (Unit {0}) Refusal) → Leads {A = Unit {0}} (λ u. X) o → Ok tt ≡ o → X
 always (Ok u) h e = h.to
@@ -177,23 +184,22 @@ module _ (M : Meaning) {xs : List ℕ} {t t' : Table} {sure : Bool} (k : Linked 
       (omega (arith, few, length_push (asserted (state_of t).trail) l, asserted_length (state_of t).trail, long, k.claims)) k.explains))
 
   -- the theory's list, cut and with the literal at its end, is the trail again
-  pub jumps : Lawful M → (level c : ℕ) {count : ℕ} (before : List Entry) (last : Entry) → blames_of t' ≡ blames_of t → Ok count ≡ says (unless_over (state_of t) (jump (state_of t) level c))
-      → state_of t' ≡ leaves (state_of t) (unless_over (state_of t) (jump (state_of t) level c)) → reverse (before ++ last ∷ []) ≡ (state_of t').trail
-      → Linked M (assert_leaves M.claims (take_back_leaves xs (length before)) last.literal) t' false
-  jumps law level c before last blames told state is =
+  pub jumps : Lawful M → (level c : ℕ) {count : ℕ} (len : ℕ) (last : Entry) → blames_of t' ≡ blames_of t → Ok count ≡ says (unless_over (state_of t) (jump (state_of t) level c))
+      → state_of t' ≡ leaves (state_of t) (unless_over (state_of t) (jump (state_of t) level c)) → Some last ≡ slice_get (state_of t').trail 0 → len ≡ length (state_of t').trail
+      → Linked M (assert_leaves M.claims (take_back_leaves xs (len - 1)) last.literal) t' false
+  jumps law level c len last blames told state is all =
       let J = subst (Jumped level c (state_of t)) (sym state) (counted_left {P = Jumped level c (state_of t)} (state_of t) (unless_over (state_of t) (jump (state_of t) level c)) (jump_lands (state_of t) level c) told) in
       let e : Entry = record { literal = J.literal; reason = Clause c } in
-      let turned : last ∷ reverse before ≡ e ∷ up_to level (state_of t).trail = sym (reverse-append before (last ∷ [])) ∙ is ∙ J.trail in
+      let first : Some last ≡ Some e = is ∙ ap (λ z. slice_get z 0) J.trail in
       let here : last ≡ e = cc in
-      let rest : reverse before ≡ up_to level (state_of t).trail = cc in
-      let long : length before ≡ length (up_to level (state_of t).trail) = sym (length-reverse before) ∙ ap length rest in
+      let long : len - 1 ≡ length (up_to level (state_of t).trail) = omega (arith, all, ap length J.trail) in
       let reached : Reached M (state_of t') = subst (Reached M) (sym state) (reached_after M (state_of t) k.reached (step.Jump level c)) in
       let goes = latest_goes M.claims e (up_to level (state_of t).trail) (subst (λ z. Proper M.claims (asserted z)) J.trail (reached_trail M law (state_of t') reached)) in
       let cut = cut_end level (state_of t).trail in
       record {
         claims = k.claims ∙ sym claims;
-        same = ap (λ z. assert_leaves M.claims (take_back_leaves xs (length before)) z.literal) here
-            ∙ ap (λ z. assert_leaves M.claims z J.literal) (take_back_take xs (length before) ∙ ap (λ n. take n xs) long ∙ ap (take (length (up_to level (state_of t).trail))) k.same ∙ cut_asserted level (state_of t).trail)
+        same = ap (λ z. assert_leaves M.claims (take_back_leaves xs (len - 1)) z.literal) here
+            ∙ ap (λ z. assert_leaves M.claims z J.literal) (take_back_take xs (len - 1) ∙ ap (λ n. take n xs) long ∙ ap (take (length (up_to level (state_of t).trail))) k.same ∙ cut_asserted level (state_of t).trail)
             ∙ taken M.claims (up_to level (state_of t).trail) J.literal goes.below goes.off ∙ ap asserted (sym J.trail);
         reached = reached;
         explains = subst (λ b. Explains M b (state_of t').trail) (sym blames) (subst (Explains M (blames_of t)) (sym J.trail)

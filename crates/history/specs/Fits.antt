@@ -4,7 +4,8 @@ use Rattle.theory.specs.Meaning.{Meaning}
 use Rattle.theory.specs.Calls.{over}
 use Rattle.rules.specs.declared.step.Step.{Step}
 use Rattle.rules.specs.declared.step.Step.TheVariants.{Decide, Propagate, Imply, Conflict, Clash, Resolve, Jump, Forget, Fit, NoFit}
-use Rattle.rules.specs.Rules.{State, Outcome, asserted, judge}
+use Rattle.rules.specs.States.{State, asserted, Outcome}
+use Rattle.rules.specs.Rules.{judge}
 
 -- a fit that is accepted is written over the front of the place
 abbrev pub written : Meaning → State → Outcome → List ℤ → List ℤ

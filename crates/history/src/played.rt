@@ -1,10 +1,6 @@
 //! A whole run: a history is opened, and some steps are proposed to it.
-ghost use Rattle.std.specs.Prelude.{◌≡◌, Ok, Err, IfOk, IfErr, MatchResult, length, vec_items};
-ghost use Rattle.rules.specs.Histories.{HistoriesStand};
-ghost use Rattle.rules.specs.Rules.{opened, run, answers};
-ghost use Rattle.clauses.specs.Rows.{Reads};
-ghost use Rattle.table.specs.Tables.{state_of};
-ghost use Rattle.history.specs.Replays.{place_after, judged_as};
+ghost use Rattle.history.specs.Law.{KeepsLaw};
+ghost use Rattle.history.specs.Replays.{Plays};
 
 use crate::history::{History, Returned};
 use rules::{Refusal, Step, Unopened};
@@ -31,13 +27,8 @@ pub fn replay<T: Theory>(
     steps: &[Step],
     place: &mut [i64],
 ) -> Result<Played<T>, Returned<T>>
-    ensures law { HistoriesStand (T.means (T.shape_of theory)) }
-    ensures reads { MatchResult result (λ r. Reads (λ b. b) (T.means (T.shape_of theory)).claims row.now (Ok (state_of r.history.table).book)) (λ e. Reads (λ b. b) (T.means (T.shape_of theory)).claims row.now (Err e.why)) }
-    ensures shape { IfOk result (λ r. T.shape_of r.history.theory ≡ T.shape_of theory) }
-    ensures run { IfOk result (λ r. state_of r.history.table ≡ run (T.means (T.shape_of theory)) (opened (state_of r.history.table).book allowance) (judged_as (length place.old) steps.now)) }
-    ensures answers { IfOk result (λ r. vec_items r.answers ≡ answers (T.means (T.shape_of theory)) (opened (state_of r.history.table).book allowance) (judged_as (length place.old) steps.now)) }
-    ensures place { MatchResult result (λ r. place.new ≡ place_after (T.means (T.shape_of theory)) (opened (state_of r.history.table).book allowance) (judged_as (length place.old) steps.now) place.old) (λ e. place.new ≡ place.old) }
-    ensures theory { IfErr result (λ e. e.theory ≡ theory) }
+    ensures law { KeepsLaw T.Theory theory row.now allowance steps.now place.old place.new result }
+    ensures plays { Plays T.Theory theory row.now allowance steps.now place.old place.new result }
 {
     let table = match Table::open(heap, row, theory.claims(), allowance) {
         Ok(table) => table,

@@ -1,18 +1,24 @@
 //! Opening a history, and what is asked of one.
-ghost use Rattle.std.specs.Prelude.{◌≡◌, Ok, Err, IfOk, IfErr, MatchResult, length, option_map, reverse};
+ghost use Rattle.std.specs.Prelude.{◌≡◌, ◌↔◌, ℕ, List, IsTrue, MatchOption, length, option_map};
+ghost use Rattle.theory.specs.Members.{meaning};
 ghost use Rattle.rules.specs.Clauses.{Book};
-ghost use Rattle.rules.specs.Rules.{opened};
+ghost use Rattle.rules.specs.States.{opened, level};
+ghost use Rattle.rules.specs.declared.step.Step.{Step};
+ghost use Rattle.rules.specs.Histories.{Stands};
+ghost use Rattle.rules.specs.Judged.{JudgedRightly};
+ghost use Rattle.rules.specs.Moves.{Live, NotLive, OnTrail, FalseOn};
 ghost use Rattle.clauses.specs.Sets.{members};
-ghost use Rattle.clauses.specs.Rows.{Reads};
-ghost use Rattle.trail.specs.Kept.{Leveled};
+ghost use Rattle.trail.specs.Positions.{entry_at, level_at, position_of};
 ghost use Rattle.table.specs.Tables.{state_of, claims_of};
+ghost use Rattle.history.specs.Seen.{means, state};
+ghost use Rattle.history.specs.Opening.{Opened};
 
 use crate::history::{History, Returned};
 use clauses::LiteralSet;
 use rules::{Entry, Verdict};
 use std::alloc::Global;
 use table::Table;
-use theory::Theory;
+use theory::{Literal, Theory};
 
 impl<T: Theory> History<T> {
     /// Opens a history over a theory and a book in its row, and takes the theory's list back to nothing. If it is
@@ -23,10 +29,7 @@ impl<T: Theory> History<T> {
         row: &[u16],
         allowance: u32,
     ) -> Result<History<T>, Returned<T>>
-        ensures reads { MatchResult result (λ h. Reads (λ b. b) (T.means (T.shape_of theory)).claims row.now (Ok (state_of h.table).book)) (λ e. Reads (λ b. b) (T.means (T.shape_of theory)).claims row.now (Err e.why)) }
-        ensures state { IfOk result (λ h. state_of h.table ≡ opened (state_of h.table).book allowance) }
-        ensures shape { IfOk result (λ h. T.shape_of h.theory ≡ T.shape_of theory) }
-        ensures theory { IfErr result (λ e. e.theory ≡ theory) }
+        ensures { Opened T.Theory theory row.now allowance result }
     {
         match Table::open(heap, row, theory.claims(), allowance) {
             Ok(table) => Ok(History::begin(theory, table)),
@@ -36,7 +39,7 @@ impl<T: Theory> History<T> {
 
     /// A history over a table that was opened for the theory's claims.
     pub(crate) fn begin(mut theory: T, table: Table) -> History<T>
-        requires claims { (T.means (T.shape_of theory)).claims ≡ claims_of table }
+        requires claims { (meaning T.Theory theory).claims ≡ claims_of table }
         requires book { Book (claims_of table) (state_of table).book }
         requires new { state_of table ≡ opened (state_of table).book (state_of table).allowance }
         ensures shape { T.shape_of result.theory ≡ T.shape_of theory }
@@ -48,35 +51,127 @@ impl<T: Theory> History<T> {
             table,
             core: [0; 128],
             sure: false,
+            denied: None,
         }
     }
 
-    /// The verdict, if one stands.
-    pub fn verdict(&self) -> Option<Verdict>
-        ensures { result ≡ (state_of self.now.table).verdict }
+    /// How many claims the theory has.
+    pub fn claims(&self) -> usize
+        ensures { result ≡ (means self.now).claims }
     {
-        self.table.verdict()
+        self.theory.claims()
     }
 
-    /// The entries of the trail, the oldest first.
-    pub fn entries(&self) -> &[Entry]
-        ensures { reverse result.now ≡ (state_of self.now.table).trail }
+    /// How many terms it has.
+    pub fn terms(&self) -> usize
+        ensures { result ≡ (means self.now).terms }
     {
-        self.table.entries()
+        self.theory.terms()
     }
 
-    /// The level of each entry.
-    pub fn levels(&self) -> &[u32]
-        ensures long { length result.now ≡ length (state_of self.now.table).trail }
-        ensures levels { Leveled result.now (reverse (state_of self.now.table).trail) }
+    /// How many clauses the book has.
+    pub fn book_len(&self) -> usize
+        ensures { result ≡ length (state self.now).book }
     {
-        self.table.levels()
+        self.table.book_len()
+    }
+
+    /// The clause with a number, if it is live.
+    pub fn clause(&self, c: u16) -> Option<&[Literal]>
+        ensures { let s = state self.now in MatchOption result (NotLive s c) (λ R. Live s c R.now) }
+    {
+        self.table.clause(c)
+    }
+
+    /// Whether a clause is live.
+    pub fn is_live(&self, c: u16) -> bool
+        ensures { IsTrue result ↔ ((R : List ℕ) × Live (state self.now) c R) }
+    {
+        self.table.is_live(c)
+    }
+
+    /// How many entries the trail has.
+    pub fn len(&self) -> usize
+        ensures { result ≡ length (state self.now).trail }
+    {
+        self.table.len()
+    }
+
+    /// The entry at a position of the trail.
+    pub fn entry(&self, p: usize) -> Option<Entry>
+        ensures { result ≡ entry_at (state self.now).trail p }
+    {
+        self.table.entry(p)
+    }
+
+    /// The level of the entry at a position.
+    pub fn level_at(&self, p: usize) -> Option<u32>
+        ensures { result ≡ level_at (state self.now).trail p }
+    {
+        self.table.level_at(p)
+    }
+
+    /// The level of the latest entry.
+    pub fn level(&self) -> u32
+        ensures { result ≡ level (state self.now).trail }
+    {
+        self.table.level()
+    }
+
+    /// The position of a literal, if it is on the trail.
+    pub fn position(&self, l: Literal) -> Option<usize>
+        ensures { result ≡ position_of (state self.now).trail l }
+    {
+        self.table.position(l)
+    }
+
+    /// Whether a literal is on the trail.
+    pub fn is_true(&self, l: Literal) -> bool
+        ensures { IsTrue result ↔ OnTrail (state self.now).trail l }
+    {
+        self.table.is_true(l)
+    }
+
+    /// Whether its complement is.
+    pub fn is_false(&self, l: Literal) -> bool
+        ensures { IsTrue result ↔ FalseOn (state self.now).trail l }
+    {
+        self.table.is_false(l)
     }
 
     /// The conflict, if one stands.
     pub fn conflicting(&self) -> Option<&LiteralSet>
-        ensures { option_map (λ c. members c.now) result ≡ (state_of self.now.table).conflict }
+        ensures { option_map (λ c. members c.now) result ≡ (state self.now).conflict }
     {
         self.table.conflicting()
     }
+
+    /// The verdict, if one stands.
+    pub fn verdict(&self) -> Option<Verdict>
+        ensures { result ≡ (state self.now).verdict }
+    {
+        self.table.verdict()
+    }
+
+    /// How many steps were accepted.
+    pub fn count(&self) -> u32
+        ensures { result ≡ (state self.now).count }
+    {
+        self.table.count()
+    }
+
+    /// How many may be.
+    pub fn allowance(&self) -> u32
+        ensures { result ≡ (state self.now).allowance }
+    {
+        self.table.allowance()
+    }
+
+    /// What stands of every history: a verdict is right, some step is to be had before one, the steps come to an end,
+    /// a conflict is false, and an entry that was not decided follows from those before it. And each step is accepted
+    /// exactly if a rule has it, and refused exactly by the first cause in its table that holds.
+    pub fn stands(&self)
+        ensures state { Stands (means self.now) (state self.now) }
+        ensures steps { (x : Step) → JudgedRightly (means self.now) (state self.now) x }
+    {}
 }

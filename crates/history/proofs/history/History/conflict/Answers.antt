@@ -3,7 +3,6 @@ use Rattle.table.specs.Tables.{state_of}
 use Rattle.history.proofs.Links.{stays, conflict_stays}
 use Rattle.history.proofs.history.History.conflict.Goals as goal
 
-pub invariant_of-self : goal.invariant_of-self
-invariant_of-self g c = record {
-  linked = stays _ c.args.self.now.linked c.conflict.ensures.claims (Conflict c.args.c) c.conflict.ensures.blames c.conflict.ensures.state (conflict_stays (state_of c.args.self.now.table) c.args.c);
-}
+pub invariant_of-self-clause-linked : goal.invariant_of-self-clause-linked
+invariant_of-self-clause-linked g c =
+    stays _ c.args.self.now.linked c.conflict.ensures.claims (Conflict c.args.c) c.conflict.ensures.blames c.conflict.ensures.state (conflict_stays (state_of c.args.self.now.table) c.args.c)

@@ -1,5 +1,6 @@
 use Rattle.std.proofs.Common.{◌≤◌, ◌∙◌, ◌++◌, length, take, drop, sym, ap, arith}
 use Rattle.std.proofs.lemmas.List.{length-take-le}
+use Rattle.theory.specs.Members.{meaning}
 use Rattle.rules.specs.declared.step.Step.TheVariants.{Fit}
 use Rattle.rules.specs.Rules.{judge}
 use Rattle.table.specs.Tables.{state_of}
@@ -9,7 +10,7 @@ use Rattle.history.proofs.history.History.step.Goals as goal
 
 pub returns-in-Fit-clause-place : goal.returns-in-Fit-clause-place
 returns-in-Fit-clause-place g c =
-    let M = g.T.Theory.means (g.T.Theory.shape_of c.args.self.now.theory) in
+    let M = meaning g.T.Theory c.args.self.now.theory in
     let s = state_of c.args.self.now.table in
     let place = c.args.place.now in
     let m = c.min-len.result in

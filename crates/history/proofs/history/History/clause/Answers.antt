@@ -1,0 +1,10 @@
+use Rattle.rules.proofs.Reached.{reached_known}
+use Rattle.history.specs.Seen.{state}
+use Rattle.history.proofs.Reading.{clause_read}
+use Rattle.history.proofs.history.History.clause.Goals as goal
+
+pub returns : goal.returns
+returns g c =
+    let h = c.args.self.now in
+    let known = reached_known _ (g.met.T.Theory.lawful h.theory) (state h) h.linked.reached in
+    clause_read (state h) known.facts.few_clauses c.args.c c.clause.result c.clause.ensures
