@@ -1,5 +1,5 @@
 -- The canonical text of a book means that book. Assumes nothing.
-use Rattle.std.proofs.Common.{◌≡◌, ℕ, ◌+◌, ◌<◌, ◌^◌, List, [], ◌∷◌, ◌++◌, map, length, Some, Ok, sym, refl, ap, ◌∙◌, append_assoc, append-nil, add-zero, arith}
+use Rattle.std.proofs.Common.{◌≡◌, ℕ, ◌+◌, ◌<◌, ◌^◌, Bool, true, false, ◌==◌, if◌then◌else◌, List, [], ◌∷◌, ◌++◌, map, length, None, Some, Err, Ok, Result, sym, refl, ap, ◌∙◌, append_assoc, append-nil, add-zero, arith}
 use native.Mathlib.Nat.{min-eq_left}
 use Rattle.std.specs.List.{AllByRecursion}
 use Rattle.std.proofs.ByRecursion.{All-append}
@@ -10,13 +10,15 @@ use Rattle.difference.specs.declared.bound.Bound.{Bound as BoundRecord}
 use Rattle.rules.specs.Clauses.{row_of}
 use Rattle.book.specs.declared.contents.Call.{Call as Calling}
 use Rattle.book.specs.declared.proposed.Proposed.{Proposed}
+use Rattle.book.specs.declared.fault.Wrong.{Wrong}
+use Rattle.book.specs.declared.fault.Wrong.TheVariants.{NoTheory}
 use Rattle.book.specs.declared.reading.Purpose.{Purpose}
 use Rattle.book.specs.declared.reading.Purpose.TheVariants.{Ask, Replay}
 use Rattle.book.specs.declared.reading.Stage.{Stage}
 use Rattle.book.specs.declared.reading.Stage.TheVariants.{Start, Terms, Claims, Clauses, Rows, Allowance, Calls, Steps}
 use Rattle.book.specs.Words.{words_of}
 use Rattle.book.specs.Lines.{Saying, theory, term, claim, bound, clause, row, allowance, call, step, said_by}
-use Rattle.book.specs.Books.{ClaimList, equals, bounds, no_claims, theory_of, Contents, none, counted, adds, stage_after, claim_at, clause_at, row_at, allowance_at, call_at, theory_at, ended, reads}
+use Rattle.book.specs.Books.{ClaimList, equals, bounds, no_claims, theory_of, Contents, none, counted, adds, rank, begun, stage_after, theory_at, ended, reads}
 use Rattle.book.specs.Canonical.{spaced, theory_line, term_line, claim_line, bound_line, claim_lines, call_line, clause_line, row_line, RowText, by_clauses, by_rows, row_lines, allowance_line, step_line, Task, to_ask, to_replay, purpose_of, task_lines, book_lines, TermFits, ClaimFits, BoundFits, ClaimsFit, CallFits, StepFits, NumbersFit, ClauseFits, RowFits, TaskFits, numbered, claim_count, joined, having, ReadsBack}
 use Rattle.book.proofs.Spaced.{Plain, lines_text}
 use Rattle.book.proofs.Turns.{turn_done, reads_nil, reads_more}
@@ -33,7 +35,8 @@ passed_by : {X : Type 0} (P : Stage → Type 0) (next s : Stage) (ks : List X) �
 passed_by P next s [] g h = g
 passed_by P next s (k ∷ ks) g h = passed_by P next next ks h h
 
--- by how one is written, what its line says, the stage that it leads to, what a book has with some of them, and what one of them and all
+-- by how one is written, what its line says, the stage that it leads to, what a book has with some of them, and what
+-- one of them and all
 -- of them add after so many lines
 module _ (p : Purpose) {X Y : Type 0} (line : X → List (List ℕ)) (Fits : X → Type 0) (said : X → Saying) (next : Stage) (put : List Y → Contents) (one : ℕ → X → List Y) (all : ℕ → List X → List Y) (says : (s : Stage) (done : List Y) (k : X) → stage_after p s (said k) ≡ Ok next → Fits k → said_by (theory_at s (put done)) (words_of (spaced (line k))) ≡ Ok (said k)) (stays : (k : X) → stage_after p next (said k) ≡ Ok next) (adding : (n : ℕ) (done : List Y) (k : X) → Fits k → adds n (put done) (said k) ≡ put (done ++ one n k)) (all_none : (n : ℕ) → all n [] ≡ []) (all_more : (n : ℕ) (k : X) (ks : List X) → all n (k ∷ ks) ≡ one (n + 1) k ++ all (n + 1) ks) where
   reads_each : (ks : List X) (n : ℕ) (s : Stage) (done : List Y) (rest : List (List (List ℕ))) → ((k : X) → stage_after p s (said k) ≡ Ok next) → AllByRecursion Fits ks → reads p n s (put done) (map spaced (map line ks ++ rest)) ≡ reads p (n + length ks) (passed next s ks) (put (done ++ all n ks)) (map spaced rest)
@@ -64,15 +67,13 @@ reads_terms p ts n cs rest h =
     reads_each p term_line TermFits term Terms put (λ _ t. t ∷ []) (λ _ ts. ts) (λ _ _ t _ h. term_said _ t h) (λ _. refl) (λ _ _ _ _. refl) (λ _. refl) (λ _ _ _. refl) ts n Terms [] rest (λ _. refl) h
     ∙ passed_by (λ s. reads p (n + length ts) s (put ts) (map spaced rest) ≡ reads p (n + length ts) Terms (put ts) (map spaced rest)) Terms Terms ts refl refl
 
-theory_known : (s : Stage) (b : Contents) → claim_at s ≡ Ok Claims → theory_at s b ≡ Some (theory_of b.claims)
-theory_known Start b g = cc
-theory_known Terms b g = refl
-theory_known Claims b g = refl
-theory_known Clauses b g = refl
-theory_known Rows b g = refl
-theory_known Allowance b g = refl
-theory_known Calls b g = refl
-theory_known Steps b g = refl
+-- the theory is known where a line stands that comes after it
+theory_known : (s : Stage) (b : Contents) (r : Result Stage Wrong) (next : Stage) → begun s r ≡ Ok next → theory_at s b ≡ Some (theory_of b.claims)
+theory_known s b r next g = go (rank s == 0) g
+  where
+    go : (t : Bool) → (if t then Err NoTheory else r) ≡ Ok next → (if t then None else Some (theory_of b.claims)) ≡ Some (theory_of b.claims)
+    go true h = cc
+    go false h = refl
 
 -- the stage after the claims
 abbrev claimed : ClaimList → Stage
@@ -86,10 +87,10 @@ claimed_by P (bounds bs) g h = passed_by P Claims Terms bs g h
 reads_claims : (p : Purpose) (cs : ClaimList) (n : ℕ) (ts : List TermRecord) (rest : List (List (List ℕ))) → ClaimsFit cs → reads p n Terms (record none { terms = ts; claims = no_claims (theory_of cs) }) (map spaced (claim_lines cs ++ rest)) ≡ reads p (n + claim_count cs) (claimed cs) (record none { terms = ts; claims = cs }) (map spaced rest)
 reads_claims p (equals cs) n ts rest h =
     let put : List ClaimRecord → Contents = λ cs. record none { terms = ts; claims = equals cs } in
-    reads_each p claim_line ClaimFits claim Claims put (λ _ k. k ∷ []) (λ _ cs. cs) (λ s done k g h. ap (λ o. said_by o (words_of (spaced (claim_line k)))) (theory_known s (put done) g) ∙ claim_said k h) (λ _. refl) (λ _ _ _ _. refl) (λ _. refl) (λ _ _ _. refl) cs n Terms [] rest (λ _. refl) (recursion_from_All ClaimFits cs h)
+    reads_each p claim_line ClaimFits claim Claims put (λ _ k. k ∷ []) (λ _ cs. cs) (λ s done k g h. ap (λ o. said_by o (words_of (spaced (claim_line k)))) (theory_known s (put done) _ _ g) ∙ claim_said k h) (λ _. refl) (λ _ _ _ _. refl) (λ _. refl) (λ _ _ _. refl) cs n Terms [] rest (λ _. refl) (recursion_from_All ClaimFits cs h)
 reads_claims p (bounds bs) n ts rest h =
     let put : List BoundRecord → Contents = λ bs. record none { terms = ts; claims = bounds bs } in
-    reads_each p bound_line BoundFits bound Claims put (λ _ k. k ∷ []) (λ _ bs. bs) (λ s done k g h. ap (λ o. said_by o (words_of (spaced (bound_line k)))) (theory_known s (put done) g) ∙ bound_said k h) (λ _. refl) (λ _ _ _ _. refl) (λ _. refl) (λ _ _ _. refl) bs n Terms [] rest (λ _. refl) (recursion_from_All BoundFits bs h)
+    reads_each p bound_line BoundFits bound Claims put (λ _ k. k ∷ []) (λ _ bs. bs) (λ s done k g h. ap (λ o. said_by o (words_of (spaced (bound_line k)))) (theory_known s (put done) _ _ g) ∙ bound_said k h) (λ _. refl) (λ _ _ _ _. refl) (λ _. refl) (λ _ _ _. refl) bs n Terms [] rest (λ _. refl) (recursion_from_All BoundFits bs h)
 
 -- ---- What stands after the claims
 
@@ -97,13 +98,13 @@ module _ (ts : List TermRecord) (cs : ClaimList) where
   reads_calls : (ks : List Calling) (n : ℕ) → AllByRecursion CallFits ks → reads Ask n (claimed cs) (record none { terms = ts; claims = cs }) (map spaced (map call_line ks)) ≡ Ok (having (n + 1) ts cs (to_ask ks))
   reads_calls ks n h =
       reads_last Ask call_line CallFits call Calls (λ ks. record none { terms = ts; claims = cs; calls = ks }) (λ n k. record { line = n; call = k } ∷ []) (λ n ks. numbered (n + 1) ks) (λ _ _ k _ h. call_said _ k h) (λ _. refl) (λ _ _ _ _. refl) (λ _. refl) (λ _ _ _. refl) ks n (claimed cs)
-      (λ _. claimed_by (λ s. call_at Ask s ≡ Ok Calls) cs refl refl) (λ m b. claimed_by (λ s. ended m s b ≡ Ok b) cs refl refl) (λ _ _. refl) h
+      (λ k. claimed_by (λ s. stage_after Ask s (call k) ≡ Ok Calls) cs refl refl) (λ m b. claimed_by (λ s. ended m s b ≡ Ok b) cs refl refl) (λ _ _. refl) h
 
   abbrev with_row : List ℕ → Contents
   with_row ns = record none { terms = ts; claims = cs; row = ns }
 
   -- the allowance and the steps
-  reads_steps : (ns : List ℕ) (a : ℕ) (ks : List Proposed) (n : ℕ) (s : Stage) → allowance_at s ≡ Ok Allowance → a < 2 ^ 32 → AllByRecursion StepFits ks → reads Replay n s (with_row ns) (map spaced (allowance_line a ∷ map step_line ks)) ≡ Ok (record none { terms = ts; claims = cs; row = ns; allowance = a; steps = ks })
+  reads_steps : (ns : List ℕ) (a : ℕ) (ks : List Proposed) (n : ℕ) (s : Stage) → stage_after Replay s (allowance a) ≡ Ok Allowance → a < 2 ^ 32 → AllByRecursion StepFits ks → reads Replay n s (with_row ns) (map spaced (allowance_line a ∷ map step_line ks)) ≡ Ok (record none { terms = ts; claims = cs; row = ns; allowance = a; steps = ks })
   reads_steps ns a ks n s g ha hk =
       let put : List Proposed → Contents = λ ks. record none { terms = ts; claims = cs; row = ns; allowance = a; steps = ks } in
       reads_more Replay n s (with_row ns) (spaced (allowance_line a)) (map spaced (map step_line ks)) Allowance (put [])
@@ -116,12 +117,12 @@ module _ (ts : List TermRecord) (cs : ClaimList) where
   reads_history : (r : RowText) (a : ℕ) (ks : List Proposed) (n : ℕ) → TaskFits (to_replay r a ks) → reads Replay n (claimed cs) (with_row []) (map spaced (task_lines (to_replay r a ks))) ≡ Ok (having (n + 1) ts cs (to_replay r a ks))
   reads_history (by_clauses rows) a ks n h =
       reads_each Replay clause_line ClauseFits clause Clauses with_row (λ _ c. length c ∷ c) (λ _ cs. row_of cs) (λ _ _ c _ h. clause_said _ c h) (λ _. refl) (λ _ done c h. ap (λ v. with_row (done ++ v)) (count_whole c h)) (λ _. refl) (λ _ _ _. refl) rows n (claimed cs) [] (allowance_line a ∷ map step_line ks)
-      (λ _. claimed_by (λ s. clause_at s ≡ Ok Clauses) cs refl refl) (recursion_from_All ClauseFits rows h.0)
-      ∙ reads_steps (row_of rows) a ks (n + length rows) (passed Clauses (claimed cs) rows) (passed_by (λ s. allowance_at s ≡ Ok Allowance) Clauses (claimed cs) rows (claimed_by (λ s. allowance_at s ≡ Ok Allowance) cs refl refl) refl) h.1 (recursion_from_All StepFits ks h.2)
+      (λ c. claimed_by (λ s. stage_after Replay s (clause c) ≡ Ok Clauses) cs refl refl) (recursion_from_All ClauseFits rows h.0)
+      ∙ reads_steps (row_of rows) a ks (n + length rows) (passed Clauses (claimed cs) rows) (passed_by (λ s. stage_after Replay s (allowance a) ≡ Ok Allowance) Clauses (claimed cs) rows (claimed_by (λ s. stage_after Replay s (allowance a) ≡ Ok Allowance) cs refl refl) refl) h.1 (recursion_from_All StepFits ks h.2)
   reads_history (by_rows rows) a ks n h =
       reads_each Replay row_line NumbersFit row Rows with_row (λ _ r. r) (λ _ rs. joined rs) (λ _ _ r _ h. row_said _ r h) (λ _. refl) (λ _ _ _ _. refl) (λ _. refl) (λ _ _ _. refl) rows n (claimed cs) [] (allowance_line a ∷ map step_line ks)
-      (λ _. claimed_by (λ s. row_at s ≡ Ok Rows) cs refl refl) (recursion_from_All NumbersFit rows h.0)
-      ∙ reads_steps (joined rows) a ks (n + length rows) (passed Rows (claimed cs) rows) (passed_by (λ s. allowance_at s ≡ Ok Allowance) Rows (claimed cs) rows (claimed_by (λ s. allowance_at s ≡ Ok Allowance) cs refl refl) refl) h.1 (recursion_from_All StepFits ks h.2)
+      (λ r. claimed_by (λ s. stage_after Replay s (row r) ≡ Ok Rows) cs refl refl) (recursion_from_All NumbersFit rows h.0)
+      ∙ reads_steps (joined rows) a ks (n + length rows) (passed Rows (claimed cs) rows) (passed_by (λ s. stage_after Replay s (allowance a) ≡ Ok Allowance) Rows (claimed cs) rows (claimed_by (λ s. stage_after Replay s (allowance a) ≡ Ok Allowance) cs refl refl) refl) h.1 (recursion_from_All StepFits ks h.2)
 
   reads_task : (k : Task) (n : ℕ) → TaskFits k → reads (purpose_of k) n (claimed cs) (record none { terms = ts; claims = cs }) (map spaced (task_lines k)) ≡ Ok (having (n + 1) ts cs k)
   reads_task (to_ask ks) n h = reads_calls ks n (recursion_from_All CallFits ks h)

@@ -1,5 +1,5 @@
 -- A book, made of the lines of a text in their order. Assumes nothing.
-use Rattle.std.specs.Prelude.{◌≡◌, ℕ, ◌+◌, min, max, List, [], ◌∷◌, ◌++◌, length, Some, None, Ok, Err, vec_items, Option, Result}
+use Rattle.std.specs.Prelude.{◌≡◌, ℕ, ◌+◌, min, max, nat_le, ◌==◌, if◌then◌else◌, List, [], ◌∷◌, ◌++◌, length, Some, None, Ok, Err, vec_items, Option, Result}
 use Rattle.theory.specs.declared.term.Term.{Term as TermRecord}
 use Rattle.congruence.specs.declared.claim.Claim.{Claim as ClaimRecord}
 use Rattle.difference.specs.declared.bound.Bound.{Bound as BoundRecord}
@@ -114,124 +114,68 @@ adds line b (allowance n) = record b { allowance = n }
 adds line b (call k) = record b { calls = b.calls ++ record { line = line; call = k } ∷ [] }
 adds line b (step k) = record b { steps = b.steps ++ k ∷ [] }
 
--- ---- The order of lines: a line where it may stand takes the book to its stage
+-- ---- The order of lines: one that may stand takes the book to a stage
 
-abbrev pub theory_line_at : Stage → Result Stage Wrong
-theory_line_at Start = Ok Terms
-theory_line_at Terms = Err SecondTheory
-theory_line_at Claims = Err SecondTheory
-theory_line_at Clauses = Err SecondTheory
-theory_line_at Rows = Err SecondTheory
-theory_line_at Allowance = Err SecondTheory
-theory_line_at Calls = Err SecondTheory
-theory_line_at Steps = Err SecondTheory
+-- the rank of a stage, and of the lines that lead to it
+abbrev pub rank : Stage → ℕ
+rank Start = 0
+rank Terms = 1
+rank Claims = 2
+rank Clauses = 3
+rank Rows = 4
+rank Allowance = 5
+rank Calls = 6
+rank Steps = 7
 
-abbrev pub term_at : Stage → Result Stage Wrong
-term_at Start = Err NoTheory
-term_at Terms = Ok Terms
-term_at Claims = Err LateTerm
-term_at Clauses = Err LateTerm
-term_at Rows = Err LateTerm
-term_at Allowance = Err LateTerm
-term_at Calls = Err LateTerm
-term_at Steps = Err LateTerm
+-- a line that leads to `next` and is late where a line of a higher rank than that of `last` stands before it
+abbrev pub up_to : Stage → Stage → Wrong → Stage → Result Stage Wrong
+up_to last next late s = if nat_le (rank s) (rank last) then Ok next else Err late
 
-abbrev pub claim_at : Stage → Result Stage Wrong
-claim_at Start = Err NoTheory
-claim_at Terms = Ok Claims
-claim_at Claims = Ok Claims
-claim_at Clauses = Err LateClaim
-claim_at Rows = Err LateClaim
-claim_at Allowance = Err LateClaim
-claim_at Calls = Err LateClaim
-claim_at Steps = Err LateClaim
+-- a line that may not stand at one stage
+abbrev pub not_at : Stage → Wrong → Stage → Result Stage Wrong → Result Stage Wrong
+not_at one wrong s r = if rank s == rank one then Err wrong else r
 
+-- a line that stands somewhere after the theory line
+abbrev pub begun : Stage → Result Stage Wrong → Result Stage Wrong
+begun s r = not_at Start NoTheory s r
+
+-- a line that a book to ask has
+abbrev pub asked : Purpose → Result Stage Wrong → Result Stage Wrong
+asked Ask r = r
+asked Replay r = Err CallsToReplay
+
+-- a line that a book to replay has
+abbrev pub replayed : Purpose → Result Stage Wrong → Result Stage Wrong
+replayed Ask r = Err HistoryToAsk
+replayed Replay r = r
+
+-- clause and row lines do not stand in one book, nor two allowances
 abbrev pub clause_at : Stage → Result Stage Wrong
-clause_at Start = Err NoTheory
-clause_at Terms = Ok Clauses
-clause_at Claims = Ok Clauses
-clause_at Clauses = Ok Clauses
-clause_at Rows = Err ClausesAndRows
-clause_at Allowance = Err LateClause
-clause_at Calls = Err LateClause
-clause_at Steps = Err LateClause
+clause_at s = not_at Rows ClausesAndRows s (up_to Clauses Clauses LateClause s)
 
 abbrev pub row_at : Stage → Result Stage Wrong
-row_at Start = Err NoTheory
-row_at Terms = Ok Rows
-row_at Claims = Ok Rows
-row_at Clauses = Err ClausesAndRows
-row_at Rows = Ok Rows
-row_at Allowance = Err LateClause
-row_at Calls = Err LateClause
-row_at Steps = Err LateClause
+row_at s = not_at Clauses ClausesAndRows s (up_to Rows Rows LateClause s)
 
 abbrev pub allowance_at : Stage → Result Stage Wrong
-allowance_at Start = Err NoTheory
-allowance_at Terms = Ok Allowance
-allowance_at Claims = Ok Allowance
-allowance_at Clauses = Ok Allowance
-allowance_at Rows = Ok Allowance
-allowance_at Allowance = Err SecondAllowance
-allowance_at Calls = Err LateAllowance
-allowance_at Steps = Err LateAllowance
-
--- a line that comes to the last stage of its book
-abbrev pub last_at : Stage → Stage → Result Stage Wrong
-last_at last Start = Err NoTheory
-last_at last Terms = Ok last
-last_at last Claims = Ok last
-last_at last Clauses = Ok last
-last_at last Rows = Ok last
-last_at last Allowance = Ok last
-last_at last Calls = Ok last
-last_at last Steps = Ok last
-
--- a line that no book of the purpose has
-abbrev pub foreign_at : Wrong → Stage → Result Stage Wrong
-foreign_at w Start = Err NoTheory
-foreign_at w Terms = Err w
-foreign_at w Claims = Err w
-foreign_at w Clauses = Err w
-foreign_at w Rows = Err w
-foreign_at w Allowance = Err w
-foreign_at w Calls = Err w
-foreign_at w Steps = Err w
-
--- a book to ask has calls
-abbrev pub call_at : Purpose → Stage → Result Stage Wrong
-call_at Ask s = last_at Calls s
-call_at Replay s = foreign_at CallsToReplay s
-
--- a book to replay has a history
-abbrev pub history_at : (Stage → Result Stage Wrong) → Purpose → Stage → Result Stage Wrong
-history_at line_at Ask s = foreign_at HistoryToAsk s
-history_at line_at Replay s = line_at s
+allowance_at s = not_at Allowance SecondAllowance s (up_to Rows Allowance LateAllowance s)
 
 abbrev pub stage_after : Purpose → Stage → Saying → Result Stage Wrong
 stage_after p s nothing = Ok s
-stage_after p s (theory o) = theory_line_at s
-stage_after p s (term t) = term_at s
-stage_after p s (claim k) = claim_at s
-stage_after p s (bound k) = claim_at s
-stage_after p s (clause ls) = history_at clause_at p s
-stage_after p s (row ns) = history_at row_at p s
-stage_after p s (allowance n) = history_at allowance_at p s
-stage_after p s (call k) = call_at p s
-stage_after p s (step k) = history_at (last_at Steps) p s
+stage_after p s (theory o) = up_to Start Terms SecondTheory s
+stage_after p s (term t) = begun s (up_to Terms Terms LateTerm s)
+stage_after p s (claim k) = begun s (up_to Claims Claims LateClaim s)
+stage_after p s (bound k) = begun s (up_to Claims Claims LateClaim s)
+stage_after p s (clause ls) = begun s (replayed p (clause_at s))
+stage_after p s (row ns) = begun s (replayed p (row_at s))
+stage_after p s (allowance n) = begun s (replayed p (allowance_at s))
+stage_after p s (call k) = begun s (asked p (Ok Calls))
+stage_after p s (step k) = begun s (replayed p (Ok Steps))
 
 -- ---- Line by line
 
 -- the theory of a book, after its theory line
 abbrev pub theory_at : Stage → Contents → Option Sort
-theory_at Start b = None
-theory_at Terms b = Some (theory_of b.claims)
-theory_at Claims b = Some (theory_of b.claims)
-theory_at Clauses b = Some (theory_of b.claims)
-theory_at Rows b = Some (theory_of b.claims)
-theory_at Allowance b = Some (theory_of b.claims)
-theory_at Calls b = Some (theory_of b.claims)
-theory_at Steps b = Some (theory_of b.claims)
+theory_at s b = if rank s == 0 then None else Some (theory_of b.claims)
 
 abbrev pub at_line : {A : Type 0} → ℕ → Result A Wrong → Result A Fault
 at_line n (Ok x) = Ok x
@@ -243,14 +187,7 @@ turn p n s b line = at_line n (and_then (said_by (theory_at s b) (words_of line)
 
 -- a book without a theory line is at fault where it ends
 abbrev pub ended : ℕ → Stage → Contents → Result Contents Fault
-ended n Start b = Err (record { line = max n 1; wrong = NoTheory })
-ended n Terms b = Ok b
-ended n Claims b = Ok b
-ended n Clauses b = Ok b
-ended n Rows b = Ok b
-ended n Allowance b = Ok b
-ended n Calls b = Ok b
-ended n Steps b = Ok b
+ended n s b = if rank s == 0 then Err (record { line = max n 1; wrong = NoTheory }) else Ok b
 
 -- what lines give that stand after n others
 unfoldable pub reads : Purpose → ℕ → Stage → Contents → List (List ℕ) → Result Contents Fault

@@ -1,5 +1,5 @@
 -- What the words of a line say. Assumes nothing.
-use Rattle.std.specs.Prelude.{◌≡◌, ℕ, min, cond, List, [], ◌∷◌, length, ℤ, pos, neg_ℤ, Some, None, Ok, Err, vec_items, Option, Result, nat_le, slice_index}
+use Rattle.std.specs.Prelude.{◌≡◌, ℕ, min, if◌then◌else◌, List, [], ◌∷◌, length, ℤ, pos, neg_ℤ, Some, None, Ok, Err, vec_items, Option, Result, nat_le, slice_index}
 use Rattle.theory.specs.declared.term.Term.{Term as TermRecord}
 use Rattle.congruence.specs.declared.claim.Claim.{Claim as ClaimRecord}
 use Rattle.difference.specs.declared.bound.Bound.{Bound as BoundRecord}
@@ -63,7 +63,7 @@ and_then (Err e) f = Err e
 
 -- a number up to most
 abbrev pub number_to : ℕ → Word → Result ℕ Wrong
-number_to most (Number (Some n)) = cond (nat_le n most) (Ok n) (Err (TooLarge most))
+number_to most (Number (Some n)) = if nat_le n most then Ok n else Err (TooLarge most)
 number_to most (Number None) = Err (TooLarge most)
 number_to most (Negative n) = Err NoNumber
 number_to most (Known n) = Err NoNumber
@@ -83,9 +83,9 @@ long_of w = number_to 18446744073709551615 w
 
 -- a signed number of 32 bits
 abbrev pub signed_of : Word → Result ℤ Wrong
-signed_of (Number (Some n)) = cond (nat_le n 2147483647) (Ok (pos n)) (Err OutOfRange)
+signed_of (Number (Some n)) = if nat_le n 2147483647 then Ok (pos n) else Err OutOfRange
 signed_of (Number None) = Err OutOfRange
-signed_of (Negative (Some n)) = cond (nat_le n 2147483648) (Ok (neg_ℤ (pos n))) (Err OutOfRange)
+signed_of (Negative (Some n)) = if nat_le n 2147483648 then Ok (neg_ℤ (pos n)) else Err OutOfRange
 signed_of (Negative None) = Err OutOfRange
 signed_of (Known n) = Err NoNumber
 signed_of Other = Err NoNumber
@@ -195,7 +195,8 @@ propagate_of ws = and_then (two_of (rule Propagate) ws) (λ p. and_then (short_o
 abbrev pub jump_of : List Word → Result Proposed Wrong
 jump_of ws = and_then (two_of (rule Jump) ws) (λ p. and_then (middle_of p.0) (λ k. and_then (short_of p.1) (λ c. Ok (jump k c))))
 
--- `decide L`, `propagate C L`, `imply L`, `conflict C`, `clash`, `resolve`, `jump K C`, `forget C`, `fit [LEN]`, `nofit`
+-- `decide L`, `propagate C L`, `imply L`, `conflict C`, `clash`, `resolve`, `jump K C`, `forget C`, `fit [LEN]`,
+-- `nofit`
 abbrev pub proposed_by : Rule → List Word → Result Proposed Wrong
 proposed_by Decide ws = and_then (only_of (rule Decide) ws) (λ w. and_then (short_of w) (λ l. Ok (decide l)))
 proposed_by Propagate ws = propagate_of ws

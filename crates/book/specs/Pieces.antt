@@ -1,5 +1,5 @@
 -- How a text is cut. Assumes nothing.
-use Rattle.std.specs.Prelude.{ℕ, Bool, cond, ◌||◌, List, [], ◌∷◌, ◌==◌}
+use Rattle.std.specs.Prelude.{ℕ, Bool, if◌then◌else◌, ◌||◌, List, [], ◌∷◌, ◌==◌}
 use Rattle.std.specs.List.{onto_first}
 
 -- a line feed, which ends a line
@@ -18,4 +18,4 @@ blank b = b == 32 || (b == 9 || b == 13)
 -- empty line at the end
 unfoldable pub lines : List ℕ → List (List ℕ)
 lines [] = []
-lines (b ∷ bs) = cond (newline b) ([] ∷ lines bs) (onto_first b (lines bs))
+lines (b ∷ bs) = if newline b then [] ∷ lines bs else onto_first b (lines bs)

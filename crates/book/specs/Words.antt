@@ -1,5 +1,5 @@
 -- The words of a line. Assumes nothing.
-use Rattle.std.specs.Prelude.{ℕ, ◌+◌, ◌-◌, ◌*◌, ◌^◌, Bool, not, cond, ◌&&◌, ◌==◌, List, [], ◌∷◌, map, filter, length, Some, None, codes, Option, nat_lt}
+use Rattle.std.specs.Prelude.{ℕ, ◌+◌, ◌-◌, ◌*◌, ◌^◌, Bool, not, if◌then◌else◌, ◌&&◌, ◌==◌, List, [], ◌∷◌, map, filter, length, Some, None, codes, Option, nat_lt}
 use Rattle.std.specs.Char.{is_ascii_digit}
 use Rattle.std.specs.List.{fold, find, list_all, slice_split, before_first}
 use Rattle.std.specs.Str.{bytes_eq}
@@ -68,7 +68,7 @@ value_after n w = fold (λ m b. m * 10 + (b - 48)) n w
 
 -- a number, if 64 bits can hold it
 abbrev pub held : ℕ → Option ℕ
-held n = cond (nat_lt n (2 ^ 64)) (Some n) None
+held n = if nat_lt n (2 ^ 64) then Some n else None
 
 -- what has a byte at all
 abbrev pub filled : List ℕ → Bool
@@ -80,16 +80,16 @@ numeral w = filled w && digits w
 
 -- a word that is not signed
 abbrev pub natural_of : List ℕ → Word
-natural_of w = cond (numeral w) (Number (held (value_after 0 w))) Other
+natural_of w = if numeral w then Number (held (value_after 0 w)) else Other
 
 -- what stands after a `-`
 abbrev pub negative_of : List ℕ → Word
-negative_of w = cond (numeral w) (Negative (held (value_after 0 w))) Other
+negative_of w = if numeral w then Negative (held (value_after 0 w)) else Other
 
 -- digits, or a `-` and digits
 abbrev pub number_of : List ℕ → Word
 number_of [] = Other
-number_of (b ∷ bs) = cond (b == 45) (negative_of bs) (natural_of (b ∷ bs))
+number_of (b ∷ bs) = if b == 45 then negative_of bs else natural_of (b ∷ bs)
 
 abbrev pub name_or : Option Name → Word → Word
 name_or (Some n) w = Known n

@@ -1,4 +1,5 @@
-//! Books: texts that give a theory with its terms and claims, and the calls to make on it, or the clauses and the steps of a history.
+//! Books: texts that give a theory with its terms and claims, and the calls to make on it, or the clauses and the
+//! steps of a history.
 #![tactic(auto)]
 
 ghost use Rattle.book.specs.Canonical.{ReadsBack};

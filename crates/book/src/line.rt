@@ -78,7 +78,8 @@ fn short(word: Word) -> Result<u16, Wrong>
     ensures { result ≡ short_of word }
 {
     let n = number(word, usize::from(u16::MAX))?;
-    // No `try_from`: by the contract of `number` the cast loses nothing, and an answer for what cannot come is no plainer.
+    // No `try_from`: by the contract of `number` the cast loses nothing, and an answer for what cannot come is no
+    // plainer.
     Ok(n as u16)
 }
 

@@ -1,7 +1,7 @@
 //! Reading a book line by line.
 ghost use Rattle.std.specs.Prelude.{◌≡◌, ◌++◌, OnOk, vec_items};
 ghost use Rattle.book.specs.Lines.{saying_of};
-ghost use Rattle.book.specs.Books.{contents_of, none, counted, adds, theory_at, stage_after, turn, meant, Tells};
+ghost use Rattle.book.specs.Books.{contents_of, none, counted, adds, rank, up_to, theory_at, stage_after, turn, meant, Tells};
 
 use crate::contents::{Asked, Book, Claims};
 use crate::fault::{Fault, Unread, Wrong};
@@ -17,7 +17,8 @@ pub enum Purpose {
     Replay,
 }
 
-/// Which lines may come: at the start the theory alone, and then terms, claims, clauses or rows, the allowance, and calls or
+/// Which lines may come: at the start the theory alone, and then terms, claims, clauses or rows, the allowance, and
+/// calls or
 /// steps in this order.
 #[derive(Clone, Copy, PartialEq, Eq, Debug)]
 pub enum Stage {
@@ -29,6 +30,26 @@ pub enum Stage {
     Allowance,
     Calls,
     Steps,
+}
+
+impl Stage {
+    /// Lines come in the order of their stages' ranks.
+    fn rank(self) -> u8
+        ensures { result ≡ rank self }
+    {
+        self as u8
+    }
+
+    /// The stage after a line that leads to `next` and has to come before lines of a higher rank than that of `last`.
+    fn up_to(self, last: Stage, next: Stage, late: Wrong) -> Result<Stage, Wrong>
+        ensures { result ≡ up_to last next late self }
+    {
+        if self.rank() <= last.rank() {
+            Ok(next)
+        } else {
+            Err(late)
+        }
+    }
 }
 
 /// A book with nothing in it; its theory line says which claims it has.
@@ -61,25 +82,24 @@ fn next(purpose: Purpose, stage: Stage, said: &Said) -> Result<Stage, Wrong>
 {
     match (said, stage, purpose) {
         (Said::Nothing, _, _) => Ok(stage),
-        (Said::Theory(_), Stage::Start, _) => Ok(Stage::Terms),
-        (Said::Theory(_), _, _) => Err(Wrong::SecondTheory),
+        (Said::Theory(_), _, _) => stage.up_to(Stage::Start, Stage::Terms, Wrong::SecondTheory),
         (_, Stage::Start, _) => Err(Wrong::NoTheory),
-        (Said::Term(_), Stage::Terms, _) => Ok(Stage::Terms),
-        (Said::Term(_), _, _) => Err(Wrong::LateTerm),
-        (Said::Claim(_) | Said::Bound(_), Stage::Terms | Stage::Claims, _) => Ok(Stage::Claims),
-        (Said::Claim(_) | Said::Bound(_), _, _) => Err(Wrong::LateClaim),
+        (Said::Term(_), _, _) => stage.up_to(Stage::Terms, Stage::Terms, Wrong::LateTerm),
+        (Said::Claim(_) | Said::Bound(_), _, _) => {
+            stage.up_to(Stage::Claims, Stage::Claims, Wrong::LateClaim)
+        }
         (Said::Call(_), _, Purpose::Ask) => Ok(Stage::Calls),
         (Said::Call(_), _, Purpose::Replay) => Err(Wrong::CallsToReplay),
         (_, _, Purpose::Ask) => Err(Wrong::HistoryToAsk),
-        (Said::Clause(_), Stage::Terms | Stage::Claims | Stage::Clauses, _) => Ok(Stage::Clauses),
-        (Said::Row(_), Stage::Terms | Stage::Claims | Stage::Rows, _) => Ok(Stage::Rows),
         (Said::Clause(_), Stage::Rows, _) | (Said::Row(_), Stage::Clauses, _) => {
             Err(Wrong::ClausesAndRows)
         }
-        (Said::Clause(_) | Said::Row(_), _, _) => Err(Wrong::LateClause),
+        (Said::Clause(_), _, _) => stage.up_to(Stage::Clauses, Stage::Clauses, Wrong::LateClause),
+        (Said::Row(_), _, _) => stage.up_to(Stage::Rows, Stage::Rows, Wrong::LateClause),
         (Said::Allowance(_), Stage::Allowance, _) => Err(Wrong::SecondAllowance),
-        (Said::Allowance(_), Stage::Calls | Stage::Steps, _) => Err(Wrong::LateAllowance),
-        (Said::Allowance(_), _, _) => Ok(Stage::Allowance),
+        (Said::Allowance(_), _, _) => {
+            stage.up_to(Stage::Rows, Stage::Allowance, Wrong::LateAllowance)
+        }
         (Said::Step(_), _, _) => Ok(Stage::Steps),
     }
 }

@@ -134,7 +134,8 @@ const NAMES: [Name; 26] = [
     Name::Sort(Sort::Distance),
 ];
 
-/// What a word is. A number has the value of its digits, unless no field can hold it; a negative one has a `-` before them.
+/// What a word is. A number has the value of its digits, unless no field can hold it; a negative one has a `-` before
+/// them.
 #[derive(Clone, Copy, PartialEq, Eq, Debug)]
 pub enum Word {
     Known(Name),

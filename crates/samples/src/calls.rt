@@ -123,17 +123,21 @@ fn complements(rt: HostRuntime) {
 /// The numbers by which callers know the refusals.
 #[test]
 fn refusal_numbers(rt: HostRuntime) {
-    assert_eq!(rt; Refusal::PastLimit.number(), 1);
-    assert_eq!(rt; Refusal::ArgumentNotLower.number(), 2);
-    assert_eq!(rt; Refusal::TermHasArgument.number(), 2);
-    assert_eq!(rt; Refusal::NoSuchTerm.number(), 3);
-    assert_eq!(rt; Refusal::ConstantOutOfRange.number(), 3);
-    assert_eq!(rt; Refusal::NoSuchLiteral.number(), 5);
-    assert_eq!(rt; Refusal::ClaimOnList.number(), 6);
-    assert_eq!(rt; Refusal::AboveLength.number(), 7);
-    assert_eq!(rt; Refusal::ShortCorePlace.number(), 8);
-    assert_eq!(rt; Refusal::ShortFitPlace.number(), 9);
-    assert_eq!(rt; Refusal::ListImpossible.number(), 10);
+    for (refusal, number) in [
+        (Refusal::PastLimit, 1),
+        (Refusal::ArgumentNotLower, 2),
+        (Refusal::TermHasArgument, 2),
+        (Refusal::NoSuchTerm, 3),
+        (Refusal::ConstantOutOfRange, 3),
+        (Refusal::NoSuchLiteral, 5),
+        (Refusal::ClaimOnList, 6),
+        (Refusal::AboveLength, 7),
+        (Refusal::ShortCorePlace, 8),
+        (Refusal::ShortFitPlace, 9),
+        (Refusal::ListImpossible, 10),
+    ] {
+        assert_eq!(rt; refusal.number(), number);
+    }
 }
 
 /// A list of literals takes each claim once.

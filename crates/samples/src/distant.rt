@@ -85,64 +85,58 @@ fn a_denial_is_one_more(rt: HostRuntime) -> Result<(), Fail> {
         Ok(())
     );
     assert_eq!(rt; place, [0, -4]);
-    let mut core = [9u16; 3];
-    assert_eq!(rt;
-        query_after(make(rt.alloc(), &terms, &claims), &[1, 2, 4], &mut core),
-        Ok(Found::Possible)
-    );
-    assert_eq!(rt;
-        query_after(make(rt.alloc(), &terms, &claims), &[0, 3], &mut core),
-        Ok(Found::Impossible(2))
-    );
-    assert_eq!(rt; core, [0, 1, 9]);
+    let queries: [(&[Literal], Found, [u16; 3]); 2] = [
+        (&[1, 2, 4], Found::Possible, [9, 9, 9]),
+        (&[0, 3], Found::Impossible(2), [0, 1, 9]),
+    ];
+    for (asserted, found, wanted) in queries {
+        let mut core = [9u16; 3];
+        assert_eq!(rt;
+            query_after(make(rt.alloc(), &terms, &claims), asserted, &mut core),
+            Ok(found)
+        );
+        assert_eq!(rt; core, wanted);
+    }
+    Ok(())
+}
+
+/// 256 terms and not 257, 128 claims and not 129.
+#[test]
+fn limits(rt: HostRuntime) -> Result<(), Fail> {
+    let heap = rt.alloc();
+    for (terms, claims, wanted) in [
+        (256, 1, None),
+        (257, 1, refused(Refusal::PastLimit)),
+        (1, 1, None),
+        (128, 128, None),
+        (129, 129, refused(Refusal::PastLimit)),
+    ] {
+        let terms = constants(heap, terms)?;
+        let claims = ring(heap, claims, 0, 0)?;
+        assert_eq!(rt; make(heap, &terms, &claims).err(), wanted);
+    }
     Ok(())
 }
 
 #[test]
-fn limits(rt: HostRuntime) -> Result<(), Fail> {
+fn claims_on_two_terms(rt: HostRuntime) -> Result<(), Fail> {
     let heap = rt.alloc();
-    let one = [constant(0)];
-    let two = constants(heap, 2)?;
-    assert_eq!(rt; make(heap, &constants(heap, 256)?, &[]).err(), None);
-    assert_eq!(rt;
-        make(heap, &constants(heap, 257)?, &[]).err(),
-        refused(Refusal::PastLimit)
-    );
-    assert_eq!(rt; make(heap, &one, &ring(heap, 1, 0, 0)?).err(), None);
-    assert_eq!(rt;
-        make(heap, &constants(heap, 128)?, &ring(heap, 128, 0, 0)?).err(),
-        None
-    );
-    assert_eq!(rt;
-        make(heap, &constants(heap, 129)?, &ring(heap, 129, 0, 0)?).err(),
-        refused(Refusal::PastLimit)
-    );
-    assert_eq!(rt; make(heap, &two, &[apart(0, 1, 1_000_000)]).err(), None);
-    assert_eq!(rt;
-        make(heap, &two, &[apart(0, 1, 1_000_001)]).err(),
-        refused(Refusal::ConstantOutOfRange)
-    );
-    assert_eq!(rt; make(heap, &two, &[apart(0, 1, -1_000_000)]).err(), None);
-    assert_eq!(rt;
-        make(heap, &two, &[apart(0, 1, -1_000_001)]).err(),
-        refused(Refusal::ConstantOutOfRange)
-    );
-    assert_eq!(rt;
-        make(heap, &two, &[apart(0, 1, i32::MIN)]).err(),
-        refused(Refusal::ConstantOutOfRange)
-    );
-    assert_eq!(rt;
-        make(heap, &two, &[apart(0, 1, i32::MAX)]).err(),
-        refused(Refusal::ConstantOutOfRange)
-    );
-    assert_eq!(rt;
-        make(heap, &two, &[apart(1, 2, 0)]).err(),
-        refused(Refusal::NoSuchTerm)
-    );
-    assert_eq!(rt;
-        make(heap, &two, &[apart(2, 1, 0)]).err(),
-        refused(Refusal::NoSuchTerm)
-    );
+    let terms = constants(heap, 2)?;
+    for (claim, wanted) in [
+        (apart(0, 1, 1_000_000), None),
+        (apart(0, 1, 1_000_001), refused(Refusal::ConstantOutOfRange)),
+        (apart(0, 1, -1_000_000), None),
+        (
+            apart(0, 1, -1_000_001),
+            refused(Refusal::ConstantOutOfRange),
+        ),
+        (apart(0, 1, i32::MIN), refused(Refusal::ConstantOutOfRange)),
+        (apart(0, 1, i32::MAX), refused(Refusal::ConstantOutOfRange)),
+        (apart(1, 2, 0), refused(Refusal::NoSuchTerm)),
+        (apart(2, 1, 0), refused(Refusal::NoSuchTerm)),
+    ] {
+        assert_eq!(rt; make(heap, &terms, &[claim]).err(), wanted);
+    }
     Ok(())
 }
 
@@ -157,24 +151,23 @@ fn applied(arity: u8) -> Term {
 
 #[test]
 fn lower_numbers_first(rt: HostRuntime) {
-    let heap = rt.alloc();
-    let bad = [apart(0, 9, 0)];
-    assert_eq!(rt;
-        make(heap, &[constant(0), applied(1)], &[]).err(),
-        refused(Refusal::TermHasArgument)
-    );
-    assert_eq!(rt;
-        make(heap, &[constant(0), applied(2)], &bad).err(),
-        refused(Refusal::TermHasArgument)
-    );
-    assert_eq!(rt;
-        make(heap, &[constant(0), applied(3)], &[]).err(),
-        refused(Refusal::PastLimit)
-    );
-    assert_eq!(rt;
-        make(heap, &[applied(1), applied(3)], &bad).err(),
-        refused(Refusal::PastLimit)
-    );
+    let bad = apart(0, 9, 0);
+    for (terms, claim, cause) in [
+        (
+            [constant(0), applied(1)],
+            apart(0, 1, 0),
+            Refusal::TermHasArgument,
+        ),
+        ([constant(0), applied(2)], bad, Refusal::TermHasArgument),
+        (
+            [constant(0), applied(3)],
+            apart(0, 1, 0),
+            Refusal::PastLimit,
+        ),
+        ([applied(1), applied(3)], bad, Refusal::PastLimit),
+    ] {
+        assert_eq!(rt; make(rt.alloc(), &terms, &[claim]).err(), refused(cause));
+    }
 }
 
 #[test]
@@ -221,10 +214,10 @@ fn a_chain_over_256_terms(rt: HostRuntime) -> Result<(), Fail> {
             ),
             Ok(())
         );
-        assert_eq!(rt; place[0], -128_000_000);
-        assert_eq!(rt; place[127], -1_000_000);
-        assert_eq!(rt; place[128], 0);
-        assert_eq!(rt; place[255], 0);
+        assert_eq!(rt;
+            [place[0], place[127], place[128], place[255]],
+            [-128_000_000, -1_000_000, 0, 0]
+        );
     }
     Ok(())
 }
@@ -244,9 +237,10 @@ fn the_largest_constants(rt: HostRuntime) -> Result<(), Fail> {
         ),
         Ok(())
     );
-    assert_eq!(rt; place[0], 0);
-    assert_eq!(rt; place[127], -127_000_127);
-    assert_eq!(rt; place[255], -128_000_128);
+    assert_eq!(rt;
+        [place[0], place[127], place[255]],
+        [0, -127_000_127, -128_000_128]
+    );
     Ok(())
 }
 
@@ -255,23 +249,22 @@ fn the_largest_constants(rt: HostRuntime) -> Result<(), Fail> {
 fn a_ring_of_128(rt: HostRuntime) -> Result<(), Fail> {
     let heap = rt.alloc();
     let terms = constants(heap, 128)?;
-    let even = ring(heap, 128, -7, 889)?;
-    let below = ring(heap, 128, -7, 888)?;
-    for reversed in [false, true] {
-        let all = literals(heap, 0, reversed)?;
-        let mut core = [999u16; 129];
-        assert_eq!(rt;
-            query_after(make(heap, &terms, &even), &all, &mut core),
-            Ok(Found::Possible)
-        );
-        assert_eq!(rt; core[0], 999);
-        assert_eq!(rt;
-            query_after(make(heap, &terms, &below), &all, &mut core),
-            Ok(Found::Impossible(128))
-        );
-        assert_eq!(rt; core[0], 0);
-        assert_eq!(rt; core[127], 127);
-        assert_eq!(rt; core[128], 999);
+    let even = (889, Found::Possible, [999, 999, 999]);
+    let below = (888, Found::Impossible(128), [0, 127, 999]);
+    for (back, found, wanted) in [even, below] {
+        let claims = ring(heap, 128, -7, back)?;
+        for reversed in [false, true] {
+            let mut core = [999u16; 129];
+            assert_eq!(rt;
+                query_after(
+                    make(heap, &terms, &claims),
+                    &literals(heap, 0, reversed)?,
+                    &mut core
+                ),
+                Ok(found)
+            );
+            assert_eq!(rt; [core[0], core[127], core[128]], wanted);
+        }
     }
     Ok(())
 }

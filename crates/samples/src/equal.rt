@@ -26,10 +26,6 @@ fn tower(heap: Global, height: u16) -> Result<Vec<Term>, AllocError> {
         .collect(heap)
 }
 
-fn claims_of(heap: Global, n: usize) -> Result<Vec<Claim>, AllocError> {
-    vec![in heap; same(0, 0); n]
-}
-
 #[test]
 fn five_symbols(rt: HostRuntime) -> Result<(), Fail> {
     let terms = constants(rt.alloc(), 5)?;
@@ -73,46 +69,51 @@ fn equal_parts(rt: HostRuntime) {
     assert_eq!(rt; core, [0, 1, 7, 7]);
 }
 
+/// 256 terms and not 257, 128 claims and not 129.
 #[test]
 fn limits(rt: HostRuntime) -> Result<(), Fail> {
     let heap = rt.alloc();
-    let one = [constant(0)];
-    assert_eq!(rt; make(heap, &constants(heap, 256)?, &[]).err(), None);
-    assert_eq!(rt;
-        make(heap, &constants(heap, 257)?, &[]).err(),
-        refused(Refusal::PastLimit)
-    );
-    assert_eq!(rt; make(heap, &one, &claims_of(heap, 128)?).err(), None);
-    assert_eq!(rt;
-        make(heap, &one, &claims_of(heap, 129)?).err(),
-        refused(Refusal::PastLimit)
-    );
-    assert_eq!(rt;
-        make(heap, &[constant(0), applied(1, 3, 0, 0)], &[]).err(),
-        refused(Refusal::PastLimit)
-    );
-    assert_eq!(rt;
-        make(heap, &[constant(0), applied(1, 1, 1, 0)], &[]).err(),
-        refused(Refusal::ArgumentNotLower)
-    );
-    assert_eq!(rt;
-        make(heap, &one, &[same(0, 1)]).err(),
-        refused(Refusal::NoSuchTerm)
-    );
-    assert_eq!(rt;
-        make(
-            heap,
-            &[applied(1, 1, 0, 0), applied(1, 3, 0, 0)],
-            &[same(0, 9)],
-        )
-        .err(),
-        refused(Refusal::PastLimit)
-    );
-    assert_eq!(rt;
-        make(heap, &[applied(1, 2, 0, 0)], &[same(9, 0)]).err(),
-        refused(Refusal::ArgumentNotLower)
-    );
+    for (terms, claims, wanted) in [
+        (256, 0, None),
+        (257, 0, refused(Refusal::PastLimit)),
+        (1, 128, None),
+        (1, 129, refused(Refusal::PastLimit)),
+    ] {
+        let terms = constants(heap, terms)?;
+        let claims = vec![in heap; same(0, 0); claims]?;
+        assert_eq!(rt; make(heap, &terms, &claims).err(), wanted);
+    }
     Ok(())
+}
+
+/// Each cause is looked for over the whole input before the next.
+#[test]
+fn causes(rt: HostRuntime) {
+    for (terms, claim, cause) in [
+        (
+            [constant(0), applied(1, 3, 0, 0)],
+            same(0, 0),
+            Refusal::PastLimit,
+        ),
+        (
+            [applied(1, 1, 0, 0), applied(1, 3, 0, 0)],
+            same(0, 9),
+            Refusal::PastLimit,
+        ),
+        (
+            [constant(0), applied(1, 1, 1, 0)],
+            same(0, 0),
+            Refusal::ArgumentNotLower,
+        ),
+        (
+            [constant(0), applied(1, 2, 0, 1)],
+            same(9, 0),
+            Refusal::ArgumentNotLower,
+        ),
+        ([constant(0), constant(1)], same(0, 2), Refusal::NoSuchTerm),
+    ] {
+        assert_eq!(rt; make(rt.alloc(), &terms, &[claim]).err(), refused(cause));
+    }
 }
 
 #[test]

@@ -8,6 +8,4 @@ mod distant;
 #[cfg(test)]
 mod equal;
 #[cfg(test)]
-mod runs;
-#[cfg(test)]
 mod texts;

@@ -23,79 +23,63 @@ const CLAIM: Name = Name::Kind(Kind::Claim);
 
 #[test]
 fn faults(rt: HostRuntime) {
-    let heap = rt.alloc();
-    assert_eq!(rt; unread(heap, ""), fault(1, Wrong::NoTheory));
-    assert_eq!(rt; unread(heap, "term 1\n"), fault(1, Wrong::NoTheory));
-    assert_eq!(rt;
-        unread(heap, "\n theory\tequality # first\r\nterm 7 0 0 0\n"),
-        None
-    );
-    assert_eq!(rt;
-        unread(heap, "theory equality\nterm 65536\n"),
-        fault(2, Wrong::TooLarge { most: 65535 })
-    );
-    assert_eq!(rt;
-        unread(heap, "theory equality\nclaim 0\n"),
-        fault(2, Wrong::Missing { after: CLAIM })
-    );
-    assert_eq!(rt;
-        unread(heap, "theory equality\n\nclaims 0 0\n"),
-        fault(3, Wrong::NoSuchLine)
-    );
-    assert_eq!(rt;
-        unread(heap, "theory equality\nclaim 0 0\nterm 1\n"),
-        fault(3, Wrong::LateTerm)
-    );
-    assert_eq!(rt;
-        unread(heap, "theory equality\nclaim 0 0 0\n"),
-        fault(2, Wrong::TooMany { after: CLAIM })
-    );
-    assert_eq!(rt;
-        unread(heap, "theory equality\nterm -1\n"),
-        fault(2, Wrong::NoNumber)
-    );
-    assert_eq!(rt;
-        unread(heap, "theory equality\ncall close 1"),
-        fault(
+    for (text, line, wrong) in [
+        ("", 1, Wrong::NoTheory),
+        ("term 1\n", 1, Wrong::NoTheory),
+        ("claim 0 1\ntheory distance\n", 1, Wrong::NoTheory),
+        ("theory distances\n", 1, Wrong::NoSuchTheory),
+        ("theory distance\ntheory equality\n", 2, Wrong::SecondTheory),
+        (
+            "theory equality\nterm 65536\n",
+            2,
+            Wrong::TooLarge { most: 65535 },
+        ),
+        (
+            "theory equality\nclaim 0\n",
+            2,
+            Wrong::Missing { after: CLAIM },
+        ),
+        (
+            "theory distance\nclaim 0 1\n",
+            2,
+            Wrong::Missing { after: CLAIM },
+        ),
+        ("theory equality\n\nclaims 0 0\n", 3, Wrong::NoSuchLine),
+        ("theory equality\nclaim 0 0\nterm 1\n", 3, Wrong::LateTerm),
+        (
+            "theory distance\ncall query\nclaim 0 0 0\n",
+            3,
+            Wrong::LateClaim,
+        ),
+        (
+            "theory equality\nclaim 0 0 0\n",
+            2,
+            Wrong::TooMany { after: CLAIM },
+        ),
+        (
+            "theory distance\nclaim 0 1 2 3\n",
+            2,
+            Wrong::TooMany { after: CLAIM },
+        ),
+        ("theory equality\nterm -1\n", 2, Wrong::NoNumber),
+        ("theory distance\nclaim 0 -1 0\n", 2, Wrong::NoNumber),
+        (
+            "theory equality\ncall close 1",
             2,
             Wrong::TooMany {
-                after: Name::Ask(Ask::Close)
-            }
-        )
-    );
+                after: Name::Ask(Ask::Close),
+            },
+        ),
+    ] {
+        assert_eq!(rt; unread(rt.alloc(), text), fault(line, wrong), "of {text}");
+    }
 }
 
+/// A line may be empty or end in a comment, and between its words and at its end stand blanks of any kind.
 #[test]
-fn distance_faults(rt: HostRuntime) {
-    let heap = rt.alloc();
-    assert_eq!(rt;
-        unread(heap, "claim 0 1\ntheory distance\n"),
-        fault(1, Wrong::NoTheory)
-    );
-    assert_eq!(rt;
-        unread(heap, "theory distances\n"),
-        fault(1, Wrong::NoSuchTheory)
-    );
-    assert_eq!(rt;
-        unread(heap, "theory distance\ntheory equality\n"),
-        fault(2, Wrong::SecondTheory)
-    );
-    assert_eq!(rt;
-        unread(heap, "theory distance\nclaim 0 1\n"),
-        fault(2, Wrong::Missing { after: CLAIM })
-    );
-    assert_eq!(rt;
-        unread(heap, "theory distance\nclaim 0 1 2 3\n"),
-        fault(2, Wrong::TooMany { after: CLAIM })
-    );
-    assert_eq!(rt;
-        unread(heap, "theory distance\nclaim 0 -1 0\n"),
-        fault(2, Wrong::NoNumber)
-    );
-    assert_eq!(rt;
-        unread(heap, "theory distance\ncall query\nclaim 0 0 0\n"),
-        fault(3, Wrong::LateClaim)
-    );
+fn blanks(rt: HostRuntime) {
+    let text = "\n theory\tequality # first\r\nterm 7 0 0 0\n";
+    assert_eq!(rt; unread(rt.alloc(), text), None);
 }
 
 #[test]

@@ -1,0 +1,5 @@
+use Rattle.worked.proofs.Worked.{worked}
+use Rattle.worked.proofs.worked_books_stand.Goals as goal
+
+pub returns : goal.returns
+returns c = worked

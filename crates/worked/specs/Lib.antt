@@ -1,0 +1,3 @@
+pub mod Replays
+pub mod Edges
+pub mod Worked
