@@ -9,7 +9,8 @@ use std::time::Instant;
 use std::{env, iter};
 use theory::{Found, Refusal, Term, Theory, Unmade};
 
-// The makers of records stand here and in `samples`, which is tests alone; a public function for them would serve no theory.
+// The makers of records stand here and in `samples`, which is tests alone; a public function for them would serve no
+// theory.
 fn constant(symbol: u16) -> Term {
     Term {
         symbol,
@@ -47,7 +48,8 @@ fn chain(heap: Global) -> Result<Vec<Claim>, AllocError> {
         .collect(heap)
 }
 
-/// A chain of terms, each one below the next, so that each claim lowers all terms before it; the denial of the last claim
+/// A chain of terms, each one below the next, so that each claim lowers all terms before it; the denial of the last
+/// claim
 /// has the chain come back one too low.
 fn ring(heap: Global) -> Result<Vec<Bound>, AllocError> {
     (1..128u16)
@@ -56,7 +58,8 @@ fn ring(heap: Global) -> Result<Vec<Bound>, AllocError> {
         .collect(heap)
 }
 
-/// One term below 127 others, each claim by one more, so that each claim lowers just that term; the denial of the last has
+/// One term below 127 others, each claim by one more, so that each claim lowers just that term; the denial of the
+/// last has
 /// it above one of them.
 fn star(heap: Global) -> Result<Vec<Bound>, AllocError> {
     (1..128u16)

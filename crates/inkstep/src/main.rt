@@ -1,14 +1,17 @@
-//! The command-line tool: `inkstep ask FILE` answers the calls of a book, `inkstep replay FILE` runs the steps of a history.
+//! The command-line tool: `inkstep ask FILE` answers the calls of a book, `inkstep replay FILE` runs the steps of a
+//! history.
 #![tactic(auto)]
 
 mod answers;
 mod replays;
+mod solves;
 mod text;
 
 use answers::{Unanswered, answers};
 use book::{Book, Claims, Purpose, Unread};
 use replays::{replayed, replayed_with_states};
 use rules::Unopened;
+use solves::solved;
 use std::alloc::{AllocError, Global};
 use std::io::Read;
 use std::process::ExitCode;
@@ -18,6 +21,7 @@ use theory::{Theory, Unmade};
 const USAGE: &str = "usage:
     inkstep ask FILE ..                 answer the calls of books; - is standard input
     inkstep replay [--state] FILE ..    run the steps of histories; --state shows the trail and the conflict after each
+    inkstep solve FILE ..               search books for a fit
     inkstep help                        print this
 ";
 
@@ -29,6 +33,7 @@ enum Failure {
     Unmade(Unmade),
     Unanswered(Unanswered),
     Unopened(Unopened),
+    StepsToSolve,
 }
 
 impl fmt::Display for Failure {
@@ -39,6 +44,7 @@ impl fmt::Display for Failure {
             Failure::Unmade(e) => write!(f, "{e}"),
             Failure::Unanswered(e) => write!(f, "{e}"),
             Failure::Unopened(e) => write!(f, "{e}"),
+            Failure::StepsToSolve => write!(f, "a book to solve has no step lines"),
         }
     }
 }
@@ -118,13 +124,14 @@ fn bytes_of(rt: &HostRuntime, file: &str) -> io::Result<Vec<u8>> {
 enum Command {
     Ask,
     Replay { states: bool },
+    Solve,
 }
 
 impl Command {
     fn purpose(self) -> Purpose {
         match self {
             Command::Ask => Purpose::Ask,
-            Command::Replay { .. } => Purpose::Replay,
+            Command::Replay { .. } | Command::Solve => Purpose::Replay,
         }
     }
 }
@@ -141,6 +148,8 @@ fn served<T: Theory + Drop>(
         Command::Ask => answers(heap, &mut theory, &book.calls)?,
         Command::Replay { states: false } => replayed(heap, theory, book)?,
         Command::Replay { states: true } => replayed_with_states(heap, theory, book)?,
+        Command::Solve if book.steps.is_empty() => solved(heap, theory, book)?,
+        Command::Solve => return Err(Failure::StepsToSolve),
     };
     Ok(text)
 }
@@ -202,6 +211,7 @@ fn command_of(words: &[String]) -> Option<(Command, &[String])> {
             (Command::Replay { states: true }, files)
         }
         ("replay", files) => (Command::Replay { states: false }, files),
+        ("solve", files) => (Command::Solve, files),
         _ => return None,
     };
     (!files.is_empty()).then_some((command, files))

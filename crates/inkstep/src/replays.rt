@@ -59,21 +59,24 @@ fn put_answer(
 }
 
 /// The trail, one line for each level.
-fn put_trail(out: &mut String, entries: &[Entry], levels: &[u32]) -> Result<(), AllocError> {
-    if entries.is_empty() {
+fn put_trail<T: Theory>(out: &mut String, history: &History<T>) -> Result<(), AllocError> {
+    if history.len() == 0 {
         return writeln!(out, "    the trail is empty");
     }
     let mut last = None;
-    for (entry, level) in entries.iter().zip(levels.iter()) {
-        let shown = Shown(*entry);
-        if last == Some(*level) {
+    for p in 0..history.len() {
+        let (Some(entry), Some(level)) = (history.entry(p), history.level_at(p)) else {
+            break;
+        };
+        let shown = Shown(entry);
+        if last == Some(level) {
             write!(out, ", {shown}")?;
         } else {
             if last.is_some() {
                 writeln!(out)?;
             }
             write!(out, "    level {level}: {shown}")?;
-            last = Some(*level);
+            last = Some(level);
         }
     }
     writeln!(out)
@@ -85,14 +88,10 @@ fn put_conflict<T: Theory>(out: &mut String, history: &History<T>) -> Result<(),
         return Ok(());
     };
     write!(out, "    conflict:")?;
-    let mut empty = true;
-    for l in 0..=u8::MAX {
-        if conflict.has(u16::from(l)) {
-            write!(out, " {l}")?;
-            empty = false;
-        }
+    for l in conflict.iter() {
+        write!(out, " {l}")?;
     }
-    if empty {
+    if conflict.is_empty() {
         write!(out, " empty")?;
     }
     writeln!(out)
@@ -159,7 +158,7 @@ pub fn replayed_with_states<T: Theory + Drop>(
         let answer = history.step(*step, &mut place);
         put_answer(&mut out, *proposed, answer)?;
         if answer.is_ok() {
-            put_trail(&mut out, history.entries(), history.levels())?;
+            put_trail(&mut out, &history)?;
             put_conflict(&mut out, &history)?;
         }
     }

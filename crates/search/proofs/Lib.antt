@@ -1,0 +1,3 @@
+pub mod Leading
+pub mod Turning
+pub mod Finding

@@ -1,0 +1,5 @@
+pub mod Outcomes
+pub mod Recorders
+pub mod Searches
+pub mod Runs
+pub mod Solved
