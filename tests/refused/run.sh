@@ -1,9 +1,9 @@
 #!/bin/sh
 # Programs that must not compile: each edit here is applied to a copy of crates/theory, and the
 # compiler must refuse it by the named error. (`rt must-fail` takes only edits that reach the prover.)
-cd "$(dirname "$0")/.." || exit 2
+cd "$(dirname "$0")/../.." || exit 2
 bad=0
-for e in refused/*.edit; do
+for e in tests/refused/*.edit; do
     d=$(mktemp -d) && mkdir "$d/crates" && cp -r crates/theory "$d/crates/theory" && echo theory: >"$d/crates.txt"
     f=$(sed -n 's/^file: //p' "$e")
     OLD=$(sed -n 's/^old: //p' "$e") NEW=$(sed -n 's/^new: //p' "$e") awk '
