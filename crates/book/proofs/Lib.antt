@@ -5,3 +5,7 @@ pub mod Spaced
 pub mod Written
 pub mod Sayings
 pub mod Canonical
+pub mod Placing
+pub mod Texts
+pub mod Rows
+pub mod Logs

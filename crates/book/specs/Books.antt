@@ -1,5 +1,5 @@
 -- A book, made of the lines of a text in their order. Assumes nothing.
-use Rattle.std.specs.Prelude.{◌≡◌, ℕ, ◌+◌, min, max, nat_le, ◌==◌, if◌then◌else◌, List, [], ◌∷◌, ◌++◌, length, Some, None, Ok, Err, vec_items, Option, Result}
+use Rattle.std.specs.Prelude.{◌≡◌, ◌≢◌, ℕ, ◌+◌, ◌<◌, min, max, nat_le, ◌==◌, if◌then◌else◌, List, [], ◌∷◌, ◌++◌, length, Some, None, Ok, Err, vec_items, Option, Result}
 use Rattle.theory.specs.declared.term.Term.{Term as TermRecord}
 use Rattle.congruence.specs.declared.claim.Claim.{Claim as ClaimRecord}
 use Rattle.difference.specs.declared.bound.Bound.{Bound as BoundRecord}
@@ -84,6 +84,29 @@ step_over terms (Jump k c) = rules.Jump k c
 step_over terms (Forget c) = rules.Forget c
 step_over terms (Fit len) = rules.Fit (place_len terms len)
 step_over terms NoFit = rules.NoFit
+
+-- the length that a fit's place is told by: none where it is the number of terms, and else up to 65,535
+abbrev pub place_named : ℕ → ℕ → Option ℕ
+place_named terms len = if len == terms then None else Some (min len 65535)
+
+-- a step, as a book proposes it
+abbrev pub proposed_of : ℕ → Step → Proposed
+proposed_of terms (rules.Decide l) = Decide l
+proposed_of terms (rules.Propagate c l) = Propagate c l
+proposed_of terms (rules.Imply l) = Imply l
+proposed_of terms (rules.Conflict c) = Conflict c
+proposed_of terms rules.Clash = Clash
+proposed_of terms rules.Resolve = Resolve
+proposed_of terms (rules.Jump k c) = Jump k c
+proposed_of terms (rules.Forget c) = Forget c
+proposed_of terms (rules.Fit len) = Fit (place_named terms len)
+proposed_of terms rules.NoFit = NoFit
+
+-- a book can propose the step: it is no fit into a place that has neither as many numbers as there are terms nor fewer
+-- than 65,536
+abbrev pub Proposable : ℕ → Step → Type 0
+Proposable terms (rules.Fit len) = len ≢ terms → len < 65536
+Proposable terms k = Unit {0}
 
 -- ---- What a line adds
 

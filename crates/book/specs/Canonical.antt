@@ -81,17 +81,21 @@ row_lines (by_rows rs) = map row_line rs
 abbrev pub allowance_line : ℕ → List (List ℕ)
 allowance_line n = codes "allowance" ∷ decimal n ∷ []
 
+-- a step, without the word `step`
+abbrev pub step_words : Proposed → List (List ℕ)
+step_words (Decide l) = codes "decide" ∷ decimal l ∷ []
+step_words (Propagate c l) = codes "propagate" ∷ decimal c ∷ decimal l ∷ []
+step_words (Imply l) = codes "imply" ∷ decimal l ∷ []
+step_words (Conflict c) = codes "conflict" ∷ decimal c ∷ []
+step_words Clash = codes "clash" ∷ []
+step_words Resolve = codes "resolve" ∷ []
+step_words (Jump k c) = codes "jump" ∷ decimal k ∷ decimal c ∷ []
+step_words (Forget c) = codes "forget" ∷ decimal c ∷ []
+step_words (Fit len) = codes "fit" ∷ length_word len
+step_words NoFit = codes "nofit" ∷ []
+
 abbrev pub step_line : Proposed → List (List ℕ)
-step_line (Decide l) = codes "step" ∷ codes "decide" ∷ decimal l ∷ []
-step_line (Propagate c l) = codes "step" ∷ codes "propagate" ∷ decimal c ∷ decimal l ∷ []
-step_line (Imply l) = codes "step" ∷ codes "imply" ∷ decimal l ∷ []
-step_line (Conflict c) = codes "step" ∷ codes "conflict" ∷ decimal c ∷ []
-step_line Clash = codes "step" ∷ codes "clash" ∷ []
-step_line Resolve = codes "step" ∷ codes "resolve" ∷ []
-step_line (Jump k c) = codes "step" ∷ codes "jump" ∷ decimal k ∷ decimal c ∷ []
-step_line (Forget c) = codes "step" ∷ codes "forget" ∷ decimal c ∷ []
-step_line (Fit len) = codes "step" ∷ codes "fit" ∷ length_word len
-step_line NoFit = codes "step" ∷ codes "nofit" ∷ []
+step_line k = codes "step" ∷ step_words k
 
 -- what stands after the claims: calls, or a history's row, allowance and steps
 pub data Task : Type 0 where

@@ -1,6 +1,7 @@
 //! Steps, as a book proposes them.
-ghost use Rattle.std.specs.Prelude.{◌≡◌};
-ghost use Rattle.book.specs.Books.{step_over};
+ghost use Rattle.std.specs.Prelude.{◌≡◌, Some};
+ghost use Rattle.book.specs.Books.{step_over, proposed_of, Proposable};
+ghost use Rattle.book.specs.Canonical.{spaced, step_words};
 
 use rules::Step;
 use std::fmt;
@@ -22,6 +23,27 @@ pub enum Proposed {
 }
 
 impl Proposed {
+    /// A step over a theory of so many terms, as a book proposes it: a fit into a place of as many numbers has no
+    /// length, and the largest that a book can name stands for a larger one.
+    pub fn of(step: Step, terms: usize) -> Proposed
+        ensures value { result ≡ proposed_of terms step }
+        ensures same { Proposable terms step → step_over terms result ≡ step }
+    {
+        match step {
+            Step::Decide(l) => Proposed::Decide(l),
+            Step::Propagate(c, l) => Proposed::Propagate(c, l),
+            Step::Imply(l) => Proposed::Imply(l),
+            Step::Conflict(c) => Proposed::Conflict(c),
+            Step::Clash => Proposed::Clash,
+            Step::Resolve => Proposed::Resolve,
+            Step::Jump(k, c) => Proposed::Jump(k, c),
+            Step::Forget(c) => Proposed::Forget(c),
+            Step::Fit(len) if len == terms => Proposed::Fit(None),
+            Step::Fit(len) => Proposed::Fit(Some(u16::try_from(len).unwrap_or(u16::MAX))),
+            Step::NoFit => Proposed::NoFit,
+        }
+    }
+
     /// The step over a theory of so many terms: without a length, a fit is lent a place for as many numbers.
     pub fn step(self, terms: usize) -> Step
         ensures { result ≡ step_over terms self }
@@ -42,6 +64,8 @@ impl Proposed {
 }
 
 impl fmt::Display for Proposed {
+    ghost output = { λ k. Some (spaced (step_words k)) };
+
     fn fmt<W: fmt::Write>(&self, f: &mut fmt::Formatter<W>) -> fmt::Result {
         match *self {
             Proposed::Decide(l) => write!(f, "decide {l}"),

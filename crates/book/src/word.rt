@@ -1,5 +1,5 @@
 //! The words of a line.
-ghost use Rattle.std.specs.Prelude.{◌≡◌, IfOk};
+ghost use Rattle.std.specs.Prelude.{◌≡◌, IfOk, Some};
 ghost use Rattle.std.specs.Str.{bytes_eq};
 ghost use Rattle.book.specs.Words.{spelling, first_spelled, name_of, digits, value_after, held, numeral, number_of, word_of, words_of};
 
@@ -99,6 +99,8 @@ impl Name {
 }
 
 impl fmt::Display for Name {
+    ghost output = { λ n. Some (spelling n) };
+
     fn fmt<W: fmt::Write>(&self, f: &mut fmt::Formatter<W>) -> fmt::Result {
         let text = self.text();
         write!(f, "{text}")

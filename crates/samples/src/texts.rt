@@ -1,7 +1,8 @@
 //! Tests of texts with faults, and of what a book of distances gives.
 use crate::distant::apart;
 use book::word::{Ask, Kind, Name, Rule};
-use book::{Claims, Fault, Proposed, Purpose, Unread, Wrong};
+use book::{Claims, Fault, Proposed, Purpose, Unread, Wrong, log_text};
+use rules::Step;
 use std::alloc::Global;
 use std::test::Fail;
 
@@ -223,5 +224,75 @@ fn no_allowance_named(rt: HostRuntime) -> Result<(), Fail> {
     ))?;
     assert_eq!(rt; book.row.as_slice(), [7, 1, 2, 3].as_slice());
     assert_eq!(rt; book.allowance, u32::MAX);
+    Ok(())
+}
+
+/// The text of a book, with steps in place of its own.
+fn log(heap: Global, text: &str, steps: &[Step]) -> Result<String, Fail> {
+    let book = book::read(heap, Purpose::Replay, text.as_bytes()).map_err(|_| Fail::new(
+        "no book",
+    ))?;
+    log_text(heap, &book, steps).map_err(|_| Fail::new("no memory"))
+}
+
+/// A book whose text is not the canonical one.
+const LOOSE: &str = "theory equality # two constants and a pair
+term 7
+term 8
+term 9 0 01
+ claim 0  1
+clause 0 1
+clause
+step clash
+";
+
+/// The canonical text of the same book, with other steps.
+const LOGGED: &str = "theory equality
+term 7
+term 8
+term 9 0 1
+claim 0 1
+clause 0 1
+clause
+allowance 4294967295
+step decide 1
+step propagate 512 0
+step imply 0
+step conflict 1
+step clash
+step resolve
+step jump 70000 513
+step forget 512
+step fit
+step fit 4
+step nofit
+";
+
+#[test]
+fn a_log_with_each_step(rt: HostRuntime) -> Result<(), Fail> {
+    let steps = [
+        Step::Decide(1),
+        Step::Propagate(512, 0),
+        Step::Imply(0),
+        Step::Conflict(1),
+        Step::Clash,
+        Step::Resolve,
+        Step::Jump(70000, 513),
+        Step::Forget(512),
+        Step::Fit(3),
+        Step::Fit(4),
+        Step::NoFit,
+    ];
+    assert_eq!(rt; log(rt.alloc(), LOOSE, &steps)?.as_str(), LOGGED);
+    Ok(())
+}
+
+#[test]
+fn a_log_of_a_torn_row(rt: HostRuntime) -> Result<(), Fail> {
+    let text = "theory distance\nclaim 0 1 -5\nrow 1 0\nrow 3 0 1\nallowance 9\nstep nofit\n";
+    assert_eq!(rt;
+        log(rt.alloc(), text, &[])?.as_str(),
+        "theory distance\nclaim 0 1 -5\nrow 1 0 3 0 1\nallowance 9\n"
+    );
     Ok(())
 }
