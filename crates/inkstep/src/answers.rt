@@ -1,32 +1,9 @@
 //! The answers of a theory to the calls of a book, one line for each.
+use crate::failure::Failure;
 use crate::text::{put_fit, put_row};
 use book::{Asked, Call};
 use std::alloc::{AllocError, Global};
-use std::fmt;
 use theory::{Found, Literal, Refusal, Theory, Trial};
-
-/// Why there are no answers.
-// No generic type with `theory::Unmade`: the cases have names of their own.
-#[derive(Clone, Copy, PartialEq, Eq, Debug)]
-pub enum Unanswered {
-    NoTrial { line: usize },
-    NoMemory,
-}
-
-impl fmt::Display for Unanswered {
-    fn fmt<W: fmt::Write>(&self, f: &mut fmt::Formatter<W>) -> fmt::Result {
-        match *self {
-            Unanswered::NoTrial { line } => write!(f, "{line}: no trial is open to close"),
-            Unanswered::NoMemory => write!(f, "no memory is left"),
-        }
-    }
-}
-
-impl From<AllocError> for Unanswered {
-    fn from(_e: AllocError) -> Unanswered {
-        Unanswered::NoMemory
-    }
-}
 
 /// A theory while its calls are answered: the trials that are open, the latest last, and the answers so far.
 struct Session<'t, T: Theory> {
@@ -87,13 +64,13 @@ impl<'t, T: Theory> Session<'t, T> {
         }
     }
 
-    fn open_trial(&mut self, l: Literal) -> Result<(), Unanswered> {
+    fn open_trial(&mut self, l: Literal) -> Result<(), Failure> {
         let call = Call::Trial(l);
         match Trial::open(self.theory, l) {
             Ok(trial) => {
                 if let Err(back) = self.open.push(trial) {
                     back.value.close(self.theory);
-                    return Err(Unanswered::NoMemory);
+                    return Err(Failure::NoMemory(AllocError));
                 }
                 self.plain(call, Ok(()))?;
             }
@@ -102,16 +79,16 @@ impl<'t, T: Theory> Session<'t, T> {
         Ok(())
     }
 
-    fn close_trial(&mut self, line: usize) -> Result<(), Unanswered> {
+    fn close_trial(&mut self, line: usize) -> Result<(), Failure> {
         let Some(trial) = self.open.pop() else {
-            return Err(Unanswered::NoTrial { line });
+            return Err(Failure::NoTrial { line });
         };
         trial.close(self.theory);
         self.plain(Call::Close, Ok(()))?;
         Ok(())
     }
 
-    fn answer(&mut self, asked: Asked) -> Result<(), Unanswered> {
+    fn answer(&mut self, asked: Asked) -> Result<(), Failure> {
         match asked.call {
             Call::Assert(l) => {
                 let told = self.theory.assert(l);
@@ -129,7 +106,7 @@ impl<'t, T: Theory> Session<'t, T> {
         Ok(())
     }
 
-    fn answer_all(&mut self, calls: &[Asked]) -> Result<(), Unanswered> {
+    fn answer_all(&mut self, calls: &[Asked]) -> Result<(), Failure> {
         for asked in calls {
             self.answer(*asked)?;
         }
@@ -157,7 +134,7 @@ pub fn answers<T: Theory>(
     heap: Global,
     theory: &mut T,
     calls: &[Asked],
-) -> Result<String, Unanswered> {
+) -> Result<String, Failure> {
     let mut session = Session::new(heap, theory);
     let told = session.answer_all(calls);
     let out = session.end();

@@ -1,114 +1,37 @@
-//! The command-line tool: `inkstep ask FILE` answers the calls of a book, `inkstep replay FILE` runs the steps of a
-//! history.
+//! The command-line tool: `inkstep solve FILE` searches a book for a fit, `inkstep replay FILE` checks the steps of a
+//! history, `inkstep ask FILE` answers the calls of a book.
 #![tactic(auto)]
 
 mod answers;
+mod failure;
+mod misfit;
+mod options;
+mod output;
+mod reading;
+mod refused;
 mod replays;
 mod solves;
+mod states;
 mod text;
+mod watch;
 
-use answers::{Unanswered, answers};
-use book::{Book, Claims, Purpose, Unread};
-use replays::{replayed, replayed_with_states};
-use rules::Unopened;
+use answers::answers;
+use book::{Claims, Purpose};
+use clap::error::ErrorKind;
+use failure::{Failed, Failure, NO_MEMORY};
+use options::{Job, Options, Solving};
+use output::Log;
+use reading::{Reading, Told};
+use replays::replayed;
+use rules::Verdict;
 use solves::solved;
-use std::alloc::{AllocError, Global};
+use std::alloc::AllocError;
+use std::fmt::Display;
 use std::io::Read;
 use std::process::ExitCode;
-use std::{env, fmt, fs, io};
+use std::{env, fs, io};
+use text::FileName;
 use theory::{Theory, Unmade};
-
-const USAGE: &str = "usage:
-    inkstep ask FILE ..                 answer the calls of books; - is standard input
-    inkstep replay [--state] FILE ..    run the steps of histories; --state shows the trail and the conflict after each
-    inkstep solve FILE ..               search books for a fit
-    inkstep help                        print this
-";
-
-/// Why nothing is printed for a file.
-#[derive(Debug, Drop)]
-enum Failure {
-    NoFile(io::Error),
-    Unread(Unread),
-    Unmade(Unmade),
-    Unanswered(Unanswered),
-    Unopened(Unopened),
-    StepsToSolve,
-}
-
-impl fmt::Display for Failure {
-    fn fmt<W: fmt::Write>(&self, f: &mut fmt::Formatter<W>) -> fmt::Result {
-        match self {
-            Failure::NoFile(e) => write!(f, "{e}"),
-            Failure::Unread(e) => write!(f, "{e}"),
-            Failure::Unmade(e) => write!(f, "{e}"),
-            Failure::Unanswered(e) => write!(f, "{e}"),
-            Failure::Unopened(e) => write!(f, "{e}"),
-            Failure::StepsToSolve => write!(f, "a book to solve has no step lines"),
-        }
-    }
-}
-
-impl Failure {
-    /// Whether it begins with the number of a line.
-    fn has_line(&self) -> bool {
-        matches!(
-            self,
-            Failure::Unread(Unread::Fault(_)) | Failure::Unanswered(Unanswered::NoTrial { .. })
-        )
-    }
-}
-
-impl From<io::Error> for Failure {
-    fn from(e: io::Error) -> Failure {
-        Failure::NoFile(e)
-    }
-}
-
-impl From<Unread> for Failure {
-    fn from(e: Unread) -> Failure {
-        Failure::Unread(e)
-    }
-}
-
-impl From<Unmade> for Failure {
-    fn from(e: Unmade) -> Failure {
-        Failure::Unmade(e)
-    }
-}
-
-impl From<Unanswered> for Failure {
-    fn from(e: Unanswered) -> Failure {
-        Failure::Unanswered(e)
-    }
-}
-
-impl From<Unopened> for Failure {
-    fn from(e: Unopened) -> Failure {
-        Failure::Unopened(e)
-    }
-}
-
-impl From<AllocError> for Failure {
-    fn from(e: AllocError) -> Failure {
-        Failure::Unanswered(Unanswered::from(e))
-    }
-}
-
-/// A file that nothing is printed for, and why.
-#[derive(Debug, Drop)]
-struct Failed<'a> {
-    file: &'a str,
-    failure: Failure,
-}
-
-impl<'a> fmt::Display for Failed<'a> {
-    fn fmt<W: fmt::Write>(&self, f: &mut fmt::Formatter<W>) -> fmt::Result {
-        let Failed { file, failure } = self;
-        let gap = if failure.has_line() { "" } else { " " };
-        write!(f, "{file}:{gap}{failure}")
-    }
-}
 
 fn bytes_of(rt: &HostRuntime, file: &str) -> io::Result<Vec<u8>> {
     if file != "-" {
@@ -119,129 +42,181 @@ fn bytes_of(rt: &HostRuntime, file: &str) -> io::Result<Vec<u8>> {
     Ok(bytes)
 }
 
-/// What is done with books.
-#[derive(Clone, Copy, PartialEq, Eq, Debug)]
-enum Command {
-    Ask,
-    Replay { states: bool },
-    Solve,
-}
-
-impl Command {
-    fn purpose(self) -> Purpose {
-        match self {
-            Command::Ask => Purpose::Ask,
-            Command::Replay { .. } | Command::Solve => Purpose::Replay,
-        }
+fn purpose_of(job: Job<'_>) -> Purpose {
+    match job {
+        Job::Ask => Purpose::Ask,
+        Job::Replay(_) | Job::Solve(_) => Purpose::Replay,
     }
 }
 
 /// What a theory says to a book.
 fn served<T: Theory + Drop>(
-    heap: Global,
+    rt: &HostRuntime,
     made: Result<T, Unmade>,
-    command: Command,
-    book: &Book,
-) -> Result<String, Failure> {
-    let mut theory = made?;
-    let text = match command {
-        Command::Ask => answers(heap, &mut theory, &book.calls)?,
-        Command::Replay { states: false } => replayed(heap, theory, book)?,
-        Command::Replay { states: true } => replayed_with_states(heap, theory, book)?,
-        Command::Solve if book.steps.is_empty() => solved(heap, theory, book)?,
-        Command::Solve => return Err(Failure::StepsToSolve),
-    };
-    Ok(text)
+    job: Job<'_>,
+    reading: Reading<'_>,
+) -> Result<Told, Failure> {
+    let mut theory = made.map_err(|why| reading.unmade(why))?;
+    match job {
+        Job::Ask => Ok(Told::plain(answers(rt.alloc(), &mut theory, &reading.book.calls)?)),
+        Job::Replay(replaying) => replayed(rt.alloc(), theory, reading, replaying),
+        Job::Solve(solving) => solved(rt, theory, reading, solving),
+    }
 }
 
-/// What is said to one book.
-fn told(rt: &HostRuntime, command: Command, file: &str) -> Result<String, Failure> {
+/// What is said of one book.
+fn told(rt: &HostRuntime, job: Job<'_>, file: &str) -> Result<Told, Failure> {
     let heap = rt.alloc();
-    let bytes = bytes_of(rt, file)?;
-    let book = book::read(heap, command.purpose(), &bytes)?;
+    let text = bytes_of(rt, file)?;
+    let mut book = book::read(heap, purpose_of(job), &text)?;
+    if let Job::Solve(
+        Solving {
+            allowance: Some(allowance),
+            ..
+        },
+    ) = job
+    {
+        book.allowance = allowance;
+    }
+    let reading = Reading {
+        file,
+        text: &text,
+        book: &book,
+    };
     match &book.claims {
         Claims::Equality(claims) => {
             let made = equality::make(heap, &book.terms, claims);
-            served(heap, made, command, &book)
+            served(rt, made, job, reading)
         }
         Claims::Distance(claims) => {
             let made = distance::make(heap, &book.terms, claims);
-            served(heap, made, command, &book)
+            served(rt, made, job, reading)
         }
     }
 }
 
-/// Adds what is said to a book, below its name if they are `named`.
-fn add(
-    rt: &HostRuntime,
-    command: Command,
-    file: &str,
-    named: bool,
-    out: &mut String,
-) -> Result<(), Failure> {
-    let text = told(rt, command, file)?;
-    if named {
-        writeln!(out, "{file}:")?;
+/// The name of the log, where one is wanted.
+fn log_of(job: Job<'_>) -> Option<&str> {
+    match job {
+        Job::Solve(solving) => solving.log,
+        _ => None,
     }
-    out.push_str(text.as_str())?;
+}
+
+/// What is said of one book, below its name if it is `named`; the log is written, if one is wanted.
+fn tell<'a>(
+    rt: &HostRuntime,
+    job: Job<'a>,
+    file: &'a str,
+    named: bool,
+    all: &mut Told,
+) -> Result<(), Failed<'a>> {
+    let at_file = |failure| Failed { file, failure };
+    let Some(name) = log_of(job) else {
+        let told = told(rt, job, file).map_err(at_file)?;
+        return add(all, file, named, told).map_err(|e| at_file(Failure::from(e)));
+    };
+    let at_log = |failure| Failed {
+        file: name,
+        failure,
+    };
+    let log = Log::begin(rt, name, file).map_err(at_log)?;
+    match told(rt, job, file) {
+        Ok(told) => {
+            let text = told.log.as_ref().map_or("", |text| text.as_str());
+            log.finish(rt, text).map_err(at_log)?;
+            add(all, file, named, told).map_err(|e| at_file(Failure::from(e)))
+        }
+        Err(failure) => {
+            log.give_up(rt);
+            Err(at_file(failure))
+        }
+    }
+}
+
+fn add(all: &mut Told, file: &str, named: bool, told: Told) -> Result<(), AllocError> {
+    if named {
+        let file = FileName(file);
+        writeln!(all.text, "{file}:")?;
+    }
+    all.text.push_str(told.text.as_str())?;
+    all.verdict = told.verdict;
     Ok(())
 }
 
-/// What is said to each book, to several below the book's name.
-fn tell_all<'a>(
-    rt: &HostRuntime,
-    command: Command,
-    files: &'a [String],
-) -> Result<String, Failed<'a>> {
-    let mut out = String::new(rt.alloc());
-    let named = files.len() > 1;
-    for name in files {
-        let file = name.as_str();
-        add(rt, command, file, named, &mut out).map_err(|failure| Failed { file, failure })?;
+/// What is said of each book, of several below the book's name; and the verdict on the last.
+fn tell_all<'a>(rt: &HostRuntime, options: &Options<'a>) -> Result<Told, Failed<'a>> {
+    let mut all = Told::plain(String::new(rt.alloc()));
+    let named = options.files.len() > 1;
+    for file in options.files.iter().copied() {
+        tell(rt, options.job, file, named, &mut all)?;
     }
-    Ok(out)
+    Ok(all)
 }
 
-/// The command that some words name, and its files.
-fn command_of(words: &[String]) -> Option<(Command, &[String])> {
-    let (name, rest) = words.split_first()?;
-    let (command, files) = match (name.as_str(), rest) {
-        ("ask", files) => (Command::Ask, files),
-        ("replay", [flag, files @ ..]) if flag.as_str() == "--state" => {
-            (Command::Replay { states: true }, files)
+/// The exit status that tells a verdict, as solvers do.
+fn status_of(verdict: Option<Verdict>) -> u8 {
+    match verdict {
+        None => 0,
+        Some(Verdict::Fit) => 10,
+        Some(Verdict::NoFit) => 20,
+    }
+}
+
+/// Says what went wrong. Where standard error takes no more, nothing can be said.
+fn complain<D: Display + Drop>(rt: &HostRuntime, what: D) -> ExitCode {
+    let _ = rt.eprintln(what);
+    ExitCode::FAILURE
+}
+
+/// There is no memory before there is a file to name.
+fn without_memory(rt: &HostRuntime) -> ExitCode {
+    complain(rt, format_args!("inkstep: {NO_MEMORY}"))
+}
+
+/// Prints, and ends with a status. A reader who closed the pipe wants no word.
+fn print<D: Display + Drop>(rt: &HostRuntime, what: D, status: u8) -> ExitCode {
+    match rt.print(what) {
+        Ok(()) => ExitCode::from(status),
+        Err(e) if e.kind() == io::ErrorKind::BrokenPipe => ExitCode::FAILURE,
+        Err(e) => complain(rt, format_args!("inkstep: standard output: {e}")),
+    }
+}
+
+/// Does what the words ask for.
+fn run(rt: &HostRuntime, words: &[String]) -> ExitCode {
+    let options = match options::read(rt.alloc(), words) {
+        Ok(options) => options,
+        Err(e) if e.kind() == ErrorKind::OutOfMemory => {
+            return without_memory(rt);
         }
-        ("replay", files) => (Command::Replay { states: false }, files),
-        ("solve", files) => (Command::Solve, files),
-        _ => return None,
-    };
-    (!files.is_empty()).then_some((command, files))
-}
-
-/// Runs the command that the words name. An error is of a standard stream, where nothing more can be said.
-fn run(rt: &HostRuntime, words: &[String]) -> io::Result<ExitCode> {
-    if words.is_empty() || matches!(words, [word] if word.as_str() == "help") {
-        rt.print(USAGE)?;
-        return Ok(ExitCode::SUCCESS);
-    }
-    let Some((command, files)) = command_of(words) else {
-        rt.eprint(USAGE)?;
-        return Ok(ExitCode::FAILURE);
-    };
-    match tell_all(rt, command, files) {
-        Ok(text) => rt.print(text)?,
-        Err(failed) => {
-            eprintln!(rt; "{failed}")?;
-            return Ok(ExitCode::FAILURE);
+        Err(e) if e.use_stderr() => {
+            let _ = rt.eprint(e);
+            return ExitCode::FAILURE;
         }
+        Err(e) => return print(rt, e, 0),
+    };
+    match tell_all(rt, &options) {
+        Ok(told) if options.exit_code => print(rt, told.text, status_of(told.verdict)),
+        Ok(told) => print(rt, told.text, 0),
+        Err(failed) => complain(rt, failed),
     }
-    Ok(ExitCode::SUCCESS)
 }
 
-fn start(rt: &HostRuntime) -> io::Result<ExitCode> {
-    let words: Vec<String> = env::args(rt)?.skip(1).collect(rt.alloc())?;
-    run(rt, &words)
+/// The words of the command line, the program's name first.
+fn words_of(rt: &HostRuntime) -> io::Result<Vec<String>> {
+    Ok(env::args(rt)?.collect(rt.alloc())?)
 }
 
 fn main(rt: HostRuntime) -> ExitCode {
-    start(&rt).unwrap_or(ExitCode::FAILURE)
+    match words_of(&rt) {
+        Ok(words) => run(&rt, &words),
+        Err(e) => match e.kind() {
+            io::ErrorKind::OutOfMemory => without_memory(&rt),
+            io::ErrorKind::InvalidData => {
+                complain(&rt, "inkstep: a word of the command line is not UTF-8")
+            }
+            _ => complain(&rt, format_args!("inkstep: the command line: {e}")),
+        },
+    }
 }

@@ -1,10 +1,14 @@
 //! What the steps of a history return, one line for each, and its verdict.
+use crate::failure::Failure;
+use crate::options::Replaying;
+use crate::reading::{Reading, Told};
+use crate::refused::Refused;
+use crate::states::put_state;
 use crate::text::put_fit;
-use book::{Book, Proposed};
+use book::Proposed;
 use history::{History, Played, replay};
-use rules::{Entry, Reason, Refusal, Step, Unopened, Verdict};
+use rules::{Refusal, Step, Verdict};
 use std::alloc::{AllocError, Global};
-use std::fmt;
 use theory::Theory;
 
 /// How many numbers the largest place that is lent to a fit has.
@@ -29,21 +33,6 @@ fn prepared(
     Ok((steps, place))
 }
 
-/// An entry of the trail, in words.
-#[derive(Clone, Copy, PartialEq, Eq, Debug)]
-struct Shown(Entry);
-
-impl fmt::Display for Shown {
-    fn fmt<W: fmt::Write>(&self, f: &mut fmt::Formatter<W>) -> fmt::Result {
-        let literal = self.0.literal;
-        match self.0.reason {
-            Reason::Decided => write!(f, "{literal} decided"),
-            Reason::Clause(c) => write!(f, "{literal} by clause {c}"),
-            Reason::Theory => write!(f, "{literal} by the theory"),
-        }
-    }
-}
-
 fn put_answer(
     out: &mut String,
     step: Proposed,
@@ -56,45 +45,6 @@ fn put_answer(
             writeln!(out, "{step}: refused {number}")
         }
     }
-}
-
-/// The trail, one line for each level.
-fn put_trail<T: Theory>(out: &mut String, history: &History<T>) -> Result<(), AllocError> {
-    if history.len() == 0 {
-        return writeln!(out, "    the trail is empty");
-    }
-    let mut last = None;
-    for p in 0..history.len() {
-        let (Some(entry), Some(level)) = (history.entry(p), history.level_at(p)) else {
-            break;
-        };
-        let shown = Shown(entry);
-        if last == Some(level) {
-            write!(out, ", {shown}")?;
-        } else {
-            if last.is_some() {
-                writeln!(out)?;
-            }
-            write!(out, "    level {level}: {shown}")?;
-            last = Some(level);
-        }
-    }
-    writeln!(out)
-}
-
-/// The conflict, if one stands.
-fn put_conflict<T: Theory>(out: &mut String, history: &History<T>) -> Result<(), AllocError> {
-    let Some(conflict) = history.conflicting() else {
-        return Ok(());
-    };
-    write!(out, "    conflict:")?;
-    for l in conflict.iter() {
-        write!(out, " {l}")?;
-    }
-    if conflict.is_empty() {
-        write!(out, " empty")?;
-    }
-    writeln!(out)
 }
 
 /// The verdict, with the numbers of a fit.
@@ -115,12 +65,12 @@ fn put_verdict(
 }
 
 /// One line for each step: its words, a colon, and the count or the refusal; and then the verdict.
-pub fn replayed<T: Theory + Drop>(
+fn at_once<T: Theory + Drop>(
     heap: Global,
     theory: T,
-    book: &Book,
-) -> Result<String, Unopened> {
-    let terms = theory.terms();
+    reading: Reading<'_>,
+) -> Result<Told, Failure> {
+    let (claims, terms, book) = (theory.claims(), theory.terms(), reading.book);
     let (steps, mut place) = prepared(heap, terms, &book.steps)?;
     let Played { history, answers } = match replay(
         heap,
@@ -131,37 +81,70 @@ pub fn replayed<T: Theory + Drop>(
         &mut place,
     ) {
         Ok(played) => played,
-        Err(returned) => return Err(returned.why),
+        Err(returned) => return Err(reading.unopened(claims, returned.why)),
     };
-    let mut out = String::new(heap);
+    let mut text = String::new(heap);
     for (step, answer) in book.steps.iter().zip(answers.iter()) {
-        put_answer(&mut out, *step, *answer)?;
+        put_answer(&mut text, *step, *answer)?;
     }
-    put_verdict(&mut out, history.verdict(), terms, &place)?;
-    Ok(out)
+    let verdict = history.verdict();
+    put_verdict(&mut text, verdict, terms, &place)?;
+    Ok(Told {
+        text,
+        verdict,
+        log: None,
+    })
 }
 
-/// The same, and after each step that was accepted the trail and the conflict.
-pub fn replayed_with_states<T: Theory + Drop>(
+/// The same step by step: with the trail and the conflict, or to the first refusal.
+fn one_by_one<T: Theory + Drop>(
     heap: Global,
     theory: T,
-    book: &Book,
-) -> Result<String, Unopened> {
-    let terms = theory.terms();
+    reading: Reading<'_>,
+    replaying: Replaying,
+) -> Result<Told, Failure> {
+    let (claims, terms, book) = (theory.claims(), theory.terms(), reading.book);
     let (steps, mut place) = prepared(heap, terms, &book.steps)?;
     let mut history = match History::open(heap, theory, &book.row, book.allowance) {
         Ok(history) => history,
-        Err(returned) => return Err(returned.why),
+        Err(returned) => return Err(reading.unopened(claims, returned.why)),
     };
-    let mut out = String::new(heap);
-    for (proposed, step) in book.steps.iter().zip(steps.iter()) {
+    let mut text = String::new(heap);
+    for (i, (proposed, step)) in book.steps.iter().zip(steps.iter()).enumerate() {
         let answer = history.step(*step, &mut place);
-        put_answer(&mut out, *proposed, answer)?;
-        if answer.is_ok() {
-            put_trail(&mut out, &history)?;
-            put_conflict(&mut out, &history)?;
+        if replaying.strict
+            && let Err(refusal) = answer
+        {
+            return Err(Failure::StepRefused {
+                line: reading.step_line(i),
+                step: *proposed,
+                refused: Refused::of(&history, *step, refusal),
+            });
+        }
+        put_answer(&mut text, *proposed, answer)?;
+        if replaying.states {
+            put_state(&mut text, &history, *step, answer)?;
         }
     }
-    put_verdict(&mut out, history.verdict(), terms, &place)?;
-    Ok(out)
+    let verdict = history.verdict();
+    put_verdict(&mut text, verdict, terms, &place)?;
+    Ok(Told {
+        text,
+        verdict,
+        log: None,
+    })
+}
+
+/// Proposes the steps of a book to a history of it.
+pub fn replayed<T: Theory + Drop>(
+    heap: Global,
+    theory: T,
+    reading: Reading<'_>,
+    replaying: Replaying,
+) -> Result<Told, Failure> {
+    if replaying.states || replaying.strict {
+        one_by_one(heap, theory, reading, replaying)
+    } else {
+        at_once(heap, theory, reading)
+    }
 }

@@ -17,3 +17,21 @@ pub fn put_fit(out: &mut String, numbers: &[i64]) -> Result<(), AllocError> {
     }
     put_row(out, numbers)
 }
+
+/// The name of a file, with control characters escaped, so that it stays on its line.
+#[derive(Clone, Copy, PartialEq, Eq, Debug)]
+pub struct FileName<'a>(pub &'a str);
+
+impl<'a> fmt::Display for FileName<'a> {
+    fn fmt<W: fmt::Write>(&self, f: &mut fmt::Formatter<W>) -> fmt::Result {
+        for c in self.0.chars() {
+            if c.is_control() {
+                let escaped = c.escape_default();
+                write!(f, "{escaped}")?;
+            } else {
+                f.write_char(c)?;
+            }
+        }
+        Ok(())
+    }
+}
