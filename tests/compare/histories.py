@@ -9,14 +9,14 @@ is printed below its book and ends the run with status 1.
 """
 import collections
 import itertools
-import os
 import random
+import re
 import sys
 import tempfile
 
 import program
 import rules
-from theories import Distance, Equality, record_lines
+from theories import Distance, Equality, record_lines, some_fit_keeps
 
 BATCH = 100
 HOWS = ["replay --state", "replay"]
@@ -241,16 +241,18 @@ class Walk:
             return
         self.printed.append(f"{words}: {history.count}")
         self.full = self.full or len(history.live) == len(history.book) + len(rules.LEARNED)
+        if step[0] in ("decide", "propagate", "imply", "jump"):
+            self.printed += self.trail()
+        elif step[0] in ("conflict", "clash", "resolve"):
+            self.printed.append(f"    conflict: {' '.join(map(str, sorted(history.conflict))) or 'empty'}")
+
+    def trail(self):
         level, levels = 0, {}
-        for l, reason in history.trail:
+        for l, reason in self.history.trail:
             level += reason == "decided"
             by = {"decided": "decided", "theory": "by the theory"}.get(reason, f"by clause {reason}")
             levels.setdefault(level, []).append(f"{l} {by}")
-        self.printed += [f"    level {level}: {', '.join(entries)}" for level, entries in levels.items()]
-        if not levels:
-            self.printed.append("    the trail is empty")
-        if history.conflict is not None:
-            self.printed.append(f"    conflict: {' '.join(map(str, sorted(history.conflict))) or 'empty'}")
+        return [f"    level {level}: {', '.join(entries)}" for level, entries in levels.items()]
 
 
 class Book:
@@ -282,13 +284,6 @@ class Book:
             lines += self.walk.lines
         self.text = "\n".join(lines) + "\n"
 
-    def kept_by(self, chosen):
-        """Whether a fit in which the chosen literals hold keeps the book: each choice for the other claims is tried."""
-        if any(all(l ^ 1 in chosen for l in clause) for clause in self.clauses) or self.theory.fit(chosen) is None:
-            return False
-        l = 2 * len(chosen)
-        return l == 2 * len(self.theory.claims) or self.kept_by(chosen + [l]) or self.kept_by(chosen + [l + 1])
-
     def hold_to_the_law(self, rnd):
         """What stands of every history, by other means than the rules; whether its verdict was searched for."""
         history, theory, claims = self.walk.history, self.theory, len(self.theory.claims)
@@ -304,37 +299,22 @@ class Book:
             assert row == theory.fit([l for l, _ in history.trail]), "another fit is written"
         if claims > SEARCHED:
             return False
-        assert self.kept_by([]) == (history.verdict == "fit"), "the verdict is wrong"
+        assert some_fit_keeps(theory, self.clauses) == (history.verdict == "fit"), "the verdict is wrong"
         return True
 
     def compare(self, how, printed):
+        # Why a step is refused is told in words, for people, on the line below it.
+        printed = [line for before, line in zip([""] + printed, printed)
+                   if ": refused " not in before or not line.startswith(" ")]
         wanted = [line for line in self.walk.printed if how == "replay --state" or not line.startswith(" ")]
         for number, (model, told) in enumerate(itertools.zip_longest(wanted, printed), 1):
             assert model == told, f"{how}, line {number} of what is printed: the model {model!r}, inkstep {told!r}"
 
     def compare_refused(self):
-        run, wanted = program.run("replay", "-", text=self.text), f"-: refused {self.refusal}: "
-        told = run.returncode, run.stdout, run.stderr
-        assert told[:2] == (1, "") and told[2].startswith(wanted), f"replay: the model {wanted!r}, inkstep {told}"
-
-
-def replay(how, books, folder):
-    """What is printed of each book, replayed in one call; each by itself if one, which none should be, is at fault."""
-    files = [os.path.join(folder, f"{number}.book") for number in range(len(books))]
-    for file, book in zip(files, books):
-        with open(file, "w") as out:
-            out.write(book.text)
-    run = program.run(*how.split(), *files)
-    if run.returncode != 0 or len(books) == 1:
-        alone = [program.run(*how.split(), file) for file in files]
-        return [(run.stdout + run.stderr).splitlines() for run in alone]
-    printed, at = {f"{file}:": [] for file in files}, None
-    for line in run.stdout.splitlines():
-        if line in printed:
-            at = line
-        else:
-            printed[at].append(line)
-    return list(printed.values())
+        run = program.run("replay", "-", text=self.text)
+        told = run.returncode, run.stdout, re.findall(r"\brefused ([0-9]+)\b", run.stderr)
+        wanted = 1, "", [str(self.refusal)]
+        assert told == wanted, f"replay: the model {wanted}, inkstep {told}: {run.stderr!r}"
 
 
 class Tally:
@@ -372,7 +352,8 @@ def main():
         while tally.books < count:
             books = [Book(rnd, theories) for _ in range(min(BATCH, count - tally.books))]
             walked = [book for book in books if book.walk]
-            printed = {how: replay(how, walked, folder) for how in HOWS}
+            paths = program.files([book.text for book in walked], folder)
+            printed = {how: program.answers(how.split(), paths) for how in HOWS}
             try:
                 for book in books:
                     if book.walk is None:

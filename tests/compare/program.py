@@ -1,4 +1,4 @@
-"""The built inkstep, as both comparisons run it, and the words that both commands take."""
+"""The built inkstep, as the comparisons run it, and the words that their commands take."""
 import argparse
 import os
 import subprocess
@@ -26,3 +26,34 @@ def arguments(about, books, theories):
 
 def run(*words, text=None):
     return subprocess.run([PATH, *words], input=text, capture_output=True, text=True)
+
+
+def files(texts, folder):
+    """The paths of the books, each in a file of its own."""
+    paths = [os.path.join(folder, f"{number}.book") for number in range(len(texts))]
+    for path, text in zip(paths, texts):
+        with open(path, "w") as out:
+            out.write(text)
+    return paths
+
+
+def answers(words, paths):
+    """What is printed of each book, told in one call; each by itself if one, which none should be, is at fault."""
+    told, names = run(*words, *paths), [f"{path}:" for path in paths]
+    lines = told.stdout.splitlines()
+    if told.returncode != 0 or len(paths) < 2 or lines[:1] != names[:1]:
+        return [answer(*words, path) for path in paths]
+    printed, at = {name: [] for name in names}, None
+    for line in lines:
+        if line in printed:
+            at = line
+        else:
+            printed[at].append(line)
+    return list(printed.values())
+
+
+def answer(*words):
+    """What is printed of one book, and of what went wrong."""
+    told = run(*words)
+    wrong = [f"exit status {told.returncode}"] if told.returncode != 0 else []
+    return (told.stdout + told.stderr).splitlines() + wrong

@@ -19,6 +19,14 @@ def past_limit(table, claims):
     return len(table) > 256 or len(claims) > 128 or any(len(args) > 2 for _, args in table)
 
 
+def some_fit_keeps(theory, clauses, chosen=()):
+    """Whether a fit in which the chosen literals hold keeps the clauses: each choice for the other claims is tried."""
+    if any(all(l ^ 1 in chosen for l in clause) for clause in clauses) or theory.fit(chosen) is None:
+        return False
+    l = 2 * len(chosen)
+    return l == 2 * len(theory.claims) or any(some_fit_keeps(theory, clauses, (*chosen, k)) for k in (l, l + 1))
+
+
 class Distance:
     """Terms are only counted. A claim (a, b, c) says that a's number minus b's is at most c."""
 
