@@ -96,7 +96,7 @@ fn told(rt: &HostRuntime, job: Job<'_>, file: &str) -> Result<Told, Failure> {
 }
 
 /// The name of the log, where one is wanted.
-fn log_of(job: Job<'_>) -> Option<&str> {
+fn log_of<'a>(job: Job<'a>) -> Option<&'a str> {
     match job {
         Job::Solve(solving) => solving.log,
         _ => None,
@@ -111,25 +111,24 @@ fn tell<'a>(
     named: bool,
     all: &mut Told,
 ) -> Result<(), Failed<'a>> {
-    let at_file = |failure| Failed { file, failure };
-    let Some(name) = log_of(job) else {
-        let told = told(rt, job, file).map_err(at_file)?;
-        return add(all, file, named, told).map_err(|e| at_file(Failure::from(e)));
-    };
-    let at_log = |failure| Failed {
-        file: name,
-        failure,
-    };
-    let log = Log::begin(rt, name, file).map_err(at_log)?;
+    let log = log_of(job)
+        .map(|name| Log::begin(rt, name, file))
+        .transpose()?;
     match told(rt, job, file) {
         Ok(told) => {
-            let text = told.log.as_ref().map_or("", |text| text.as_str());
-            log.finish(rt, text).map_err(at_log)?;
-            add(all, file, named, told).map_err(|e| at_file(Failure::from(e)))
+            if let Some(log) = log {
+                log.finish(rt, told.log.as_ref().map_or("", |text| text.as_str()))?;
+            }
+            add(all, file, named, told).map_err(|e| Failed {
+                file,
+                failure: Failure::from(e),
+            })
         }
         Err(failure) => {
-            log.give_up(rt);
-            Err(at_file(failure))
+            if let Some(log) = log {
+                log.give_up(rt);
+            }
+            Err(Failed { file, failure })
         }
     }
 }

@@ -1,5 +1,5 @@
 //! The log of a search, which takes its place whole or not at all.
-use crate::failure::Failure;
+use crate::failure::{Failed, Failure};
 use std::fs::File;
 use std::io::{ErrorKind, Write};
 use std::os::unix::fs::MetadataExt;
@@ -7,31 +7,36 @@ use std::{fs, io};
 
 /// A log that is to be written. Where its place may hold a file, it is written beside that first.
 #[derive(Drop)]
-pub struct Log {
+pub struct Log<'a> {
+    name: &'a str,
     file: File,
     place: String,
     part: Option<String>,
 }
 
-impl Log {
+impl<'a> Log<'a> {
     /// Begins the log of a book's search, so that what stands against it is told before the search.
-    pub fn begin(rt: &HostRuntime, name: &str, book: &str) -> Result<Log, Failure> {
+    pub fn begin(rt: &HostRuntime, name: &'a str, book: &str) -> Result<Log<'a>, Failed<'a>> {
+        Log::open(rt, name, book).map_err(|failure| Failed {
+            file: name,
+            failure,
+        })
+    }
+
+    fn open(rt: &HostRuntime, name: &'a str, book: &str) -> Result<Log<'a>, Failure> {
         let place = place_of(rt, name)?;
-        match fs::metadata(rt, place.as_str()) {
-            Ok(found) if !found.is_file() => {
-                return Ok(Log {
-                    file: fs::create(rt, place.as_str())?,
-                    place,
-                    part: None,
-                });
-            }
-            Ok(found) => check_free(rt, &found, book)?,
-            Err(e) if e.kind() == ErrorKind::NotFound => {}
-            Err(e) => return Err(Failure::from(e)),
+        if !is_free(rt, place.as_str(), book)? {
+            return Ok(Log {
+                name,
+                file: fs::create(rt, place.as_str())?,
+                place,
+                part: None,
+            });
         }
         let part = format!(in rt.alloc(); "{place}.part")?;
         match File::create_new(rt, part.as_str()) {
             Ok(file) => Ok(Log {
+                name,
                 file,
                 place,
                 part: Some(part),
@@ -42,24 +47,32 @@ impl Log {
     }
 
     /// Writes the log, and puts it into its place. What was there stays where that fails.
-    pub fn finish(mut self, rt: &HostRuntime, text: &str) -> Result<(), Failure> {
-        let written = self.file.write_all(text.as_bytes());
-        let Some(part) = &self.part else {
-            written?;
-            return Ok(());
-        };
-        let placed = written
-            .and_then(|()| self.file.sync_all())
-            .and_then(|()| fs::rename(rt, part.as_str(), self.place.as_str()));
+    pub fn finish(mut self, rt: &HostRuntime, text: &str) -> Result<(), Failed<'a>> {
+        let placed = self.write(rt, text);
         if placed.is_err() {
-            let _ = fs::remove_file(rt, part.as_str());
+            self.remove(rt);
         }
-        placed?;
+        placed.map_err(|e| Failed {
+            file: self.name,
+            failure: Failure::from(e),
+        })
+    }
+
+    fn write(&mut self, rt: &HostRuntime, text: &str) -> io::Result<()> {
+        self.file.write_all(text.as_bytes())?;
+        if let Some(part) = &self.part {
+            self.file.sync_all()?;
+            fs::rename(rt, part.as_str(), self.place.as_str())?;
+        }
         Ok(())
     }
 
     /// Leaves no log, since there is nothing to be written.
     pub fn give_up(self, rt: &HostRuntime) {
+        self.remove(rt);
+    }
+
+    fn remove(&self, rt: &HostRuntime) {
         if let Some(part) = &self.part {
             let _ = fs::remove_file(rt, part.as_str());
         }
@@ -83,14 +96,23 @@ fn is_that_of(rt: &HostRuntime, found: &fs::Metadata, name: &str) -> bool {
     }
 }
 
-/// Whether a log may take a file's place: not that of its own book, nor where the verdict is printed.
-fn check_free(rt: &HostRuntime, found: &fs::Metadata, book: &str) -> Result<(), Failure> {
+/// Whether a place may hold a file that is the log's alone: nothing is there, or a plain file is, neither that of the
+/// log's own book nor the one where the verdict is printed.
+fn is_free(rt: &HostRuntime, place: &str, book: &str) -> Result<bool, Failure> {
+    let found = match fs::metadata(rt, place) {
+        Ok(found) => found,
+        Err(e) if e.kind() == ErrorKind::NotFound => return Ok(true),
+        Err(e) => return Err(Failure::from(e)),
+    };
+    if !found.is_file() {
+        return Ok(false);
+    }
     let book = if book == "-" { "/dev/stdin" } else { book };
-    if is_that_of(rt, found, book) {
+    if is_that_of(rt, &found, book) {
         return Err(Failure::LogOverBook);
     }
-    if is_that_of(rt, found, "/dev/stdout") {
+    if is_that_of(rt, &found, "/dev/stdout") {
         return Err(Failure::LogOverOutput);
     }
-    Ok(())
+    Ok(true)
 }

@@ -64,14 +64,29 @@ fn put_verdict(
     }
 }
 
+/// What is said of a history, below what its steps returned.
+fn ended<T: Theory>(
+    mut text: String,
+    history: &History<T>,
+    place: &[i64],
+) -> Result<Told, AllocError> {
+    let verdict = history.verdict();
+    put_verdict(&mut text, verdict, history.terms(), place)?;
+    Ok(Told {
+        text,
+        verdict,
+        log: None,
+    })
+}
+
 /// One line for each step: its words, a colon, and the count or the refusal; and then the verdict.
 fn at_once<T: Theory + Drop>(
     heap: Global,
     theory: T,
     reading: Reading<'_>,
 ) -> Result<Told, Failure> {
-    let (claims, terms, book) = (theory.claims(), theory.terms(), reading.book);
-    let (steps, mut place) = prepared(heap, terms, &book.steps)?;
+    let (claims, book) = (theory.claims(), reading.book);
+    let (steps, mut place) = prepared(heap, theory.terms(), &book.steps)?;
     let Played { history, answers } = match replay(
         heap,
         theory,
@@ -87,13 +102,7 @@ fn at_once<T: Theory + Drop>(
     for (step, answer) in book.steps.iter().zip(answers.iter()) {
         put_answer(&mut text, *step, *answer)?;
     }
-    let verdict = history.verdict();
-    put_verdict(&mut text, verdict, terms, &place)?;
-    Ok(Told {
-        text,
-        verdict,
-        log: None,
-    })
+    Ok(ended(text, &history, &place)?)
 }
 
 /// The same step by step: with the trail and the conflict, or to the first refusal.
@@ -103,8 +112,8 @@ fn one_by_one<T: Theory + Drop>(
     reading: Reading<'_>,
     replaying: Replaying,
 ) -> Result<Told, Failure> {
-    let (claims, terms, book) = (theory.claims(), theory.terms(), reading.book);
-    let (steps, mut place) = prepared(heap, terms, &book.steps)?;
+    let (claims, book) = (theory.claims(), reading.book);
+    let (steps, mut place) = prepared(heap, theory.terms(), &book.steps)?;
     let mut history = match History::open(heap, theory, &book.row, book.allowance) {
         Ok(history) => history,
         Err(returned) => return Err(reading.unopened(claims, returned.why)),
@@ -126,13 +135,7 @@ fn one_by_one<T: Theory + Drop>(
             put_state(&mut text, &history, *step, answer)?;
         }
     }
-    let verdict = history.verdict();
-    put_verdict(&mut text, verdict, terms, &place)?;
-    Ok(Told {
-        text,
-        verdict,
-        log: None,
-    })
+    Ok(ended(text, &history, &place)?)
 }
 
 /// Proposes the steps of a book to a history of it.

@@ -29,7 +29,7 @@ fn put_trail<T: Theory>(out: &mut String, history: &History<T>) -> Result<(), Al
     let mut last = None;
     for p in 0..history.len() {
         let (Some(entry), Some(level)) = (history.entry(p), history.level_at(p)) else {
-            break;
+            break; // Each position below the length has both.
         };
         let shown = Shown(entry);
         if last == Some(level) {
