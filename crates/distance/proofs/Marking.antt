@@ -1,12 +1,12 @@
 -- A loop back along the steps that marks a cycle. Assumes nothing.
 use Rattle.std.proofs.Common.{◌≡◌, ℕ, zero, suc, ◌+◌, ◌-◌, ◌<◌, ◌≤◌, Bool, true, false, cond, ◌||◌, eqb, List, [], ◌∷◌, ◌++◌, length, get_or, set, take, sym, refl, ap, ◌∙◌, ⊎_elim, arith}
-use Rattle.std.proofs.lemmas.List.{get_or-set_same, get_or-set_other, get_or_push, get_or-take, length_push, take-append-le, take-take, take_all}
+use Rattle.std.proofs.lemmas.List.{get_or-set_same, get_or-set_other, get_or_push, get_or-take, get_or_past, length_push, length-take-le, take-append-le, take-take, take_all}
 use Rattle.std.specs.List.{AllByRecursion}
 use Rattle.std.proofs.ByRecursion.{All-get_or}
-use Rattle.std.proofs.lemmas.Bool.{cases_Bool, cases_eq, eq-eqb, ne_eqb}
+use Rattle.std.proofs.lemmas.Bool.{cases_Bool, cases_eq, cases_lt, eq-eqb, ne_eqb, true≢false}
 use Rattle.theory.specs.Literals.{has}
 use Rattle.theory.specs.Positions.{put, listed, marked}
-use Rattle.theory.proofs.Positions.{all_has}
+use Rattle.theory.proofs.Positions.{all_has, listed_has}
 use Rattle.difference.specs.declared.bound.Bound.{Bound}
 use Rattle.difference.specs.Bounds.{at}
 use Rattle.difference.specs.Settling.{lowers, back, around, core}
@@ -108,3 +108,26 @@ core_marked bs steps p marks within positions long marks_are =
     (λ q h. marks_are q ∙ ⊎_elim
     (λ t. absurd (let l : q < length bs = all_has (λ z. z < length bs) (around bs steps p) (within, back_within bs steps (length bs) (length steps) (at bs p).base positions (omega arith)) q t in omega (arith, l, h)))
     (λ f. f) (cases_Bool (has (around bs steps p) q)))
+
+-- where no mark stands past the first n, those say it all
+module _ (n : ℕ) (marks : List Bool) (few : n ≤ length marks) (within : (q : ℕ) → has (marked marks) q ≡ true → q < n) where
+  none_past : (q : ℕ) → n ≤ q → get_or marks q false ≡ false
+  none_past q h =
+      ⊎_elim
+      (λ l. ⊎_elim
+      (λ t. absurd (let i : q < n = within q (listed_has 0 (length marks) (λ p. get_or marks p false) q (omega arith) (omega (arith, l)) t) in omega (arith, h, i)))
+      (λ f. f) (cases_Bool (get_or marks q false)))
+      (λ l. get_or_past marks q false (omega (arith, l)))
+      (cases_lt q (length marks))
+
+  same_front : (q : ℕ) → get_or (take n marks) q false ≡ get_or marks q false
+  same_front q =
+      ⊎_elim
+      (λ l. get_or-take n marks q false l)
+      (λ l. get_or_past (take n marks) q false (omega (arith, l, length-take-le n marks few)) ∙ sym (none_past q (omega (arith, l))))
+      (cases_lt q n)
+
+  pub marked_front : marked (take n marks) ≡ marked marks
+  marked_front =
+      ap (λ k. listed 0 k (λ q. get_or (take n marks) q false)) (length-take-le n marks few)
+      ∙ listed_longer n (length marks) 0 (λ q. get_or (take n marks) q false) (λ q. get_or marks q false) few same_front (λ q h. none_past q (omega (arith, h)))

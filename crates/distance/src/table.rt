@@ -114,7 +114,8 @@ impl Table {
         if self.good == self.work.bounds.len() {
             return Ok(Found::Possible);
         }
-        let n = list_marks(&self.marks, place)?;
+        // The cycle is of the first bounds that are impossible together: no mark is past them.
+        let n = list_marks(&self.marks[..self.good + 1], place)?;
         Ok(Found::Impossible(n))
     }
 
