@@ -1,14 +1,14 @@
 -- A row of merges that grows or is cut, with its labels. Assumes nothing.
-use Rattle.std.proofs.Common.{◌≡◌, ℕ, zero, suc, ◌+◌, ◌<◌, ◌≤◌, min, max, List, [], ◌∷◌, ◌++◌, length, get_or, take, sym, refl, ap, ◌∙◌, subst, ⊎_elim, add-one, arith, get_or-take}
-use Rattle.std.proofs.lemmas.Bool.{cases_eq}
+use Rattle.std.proofs.Common.{◌≡◌, ℕ, zero, suc, ◌+◌, ◌<◌, ◌≤◌, min, max, List, [], ◌∷◌, ◌++◌, length, take, sym, refl, ap, ◌∙◌, subst, ⊎_elim, add-one, arith, get_or-take}
+use Rattle.std.proofs.lemmas.Bool.{cases_eq, cases_lt}
 use Rattle.std.proofs.lemmas.List.{get_or_push, get_or_append_left, length_push, length-take-le}
 use Rattle.theory.specs.declared.term.Term.{Term}
 use Rattle.congruence.specs.declared.step.Step.{Step}
 use Rattle.congruence.specs.declared.step.Reason.{Reason}
 use Rattle.congruence.specs.Merges.{relabel, label, merge, pass, sweep, settle}
 use Rattle.congruence.specs.Log.{RestsOn, Rightful, Formed}
-use Rattle.congruence.proofs.Closing.{roots, roots_few, roots_some, merge_falls, merged, label_low, label_root, settle_still}
-use Rattle.equality.specs.Logs.{step_at, until, log, label_at, cell, Tabled, Ran}
+use Rattle.congruence.proofs.Closing.{roots, roots_few, roots_some, relabel_other, merge_falls, merged, label_low, label_root, settle_still}
+use Rattle.equality.specs.Logs.{step_at, until, log, label_at, cell, Tabled, Own, Renamed, Ran}
 
 -- ---- one more merge in the row
 
@@ -22,42 +22,63 @@ log_push ss s =
     ap (until (ss ++ s ∷ [])) (length_push ss s ∙ add-one (length ss))
     ∙ ap (λ (x : Step). x ∷ until (ss ++ s ∷ []) (length ss)) (get_or_push ss s _ (length ss) refl) ∙ ap (λ (xs : List Step). s ∷ xs) (until_push ss s (length ss) (omega arith))
 
--- the row of labels after one more merge
-tabled_push : (rows : List (List ℕ)) (ss : List Step) (row : List ℕ) (s : Step) → length rows ≡ length ss + 1 → Tabled rows ss
-    → ((t : ℕ) → t < 256 → get_or row t 0 ≡ relabel s.high s.low (cell rows (length ss) t)) → Tabled (rows ++ row ∷ []) (ss ++ s ∷ [])
-tabled_push rows ss row s long tabled each k t h few = ⊎_elim
-    (λ (q : k ≡ length ss + 1).
-    ap (λ (x : List ℕ). get_or x t 0) (get_or_push rows row [] k (omega arith)) ∙ each t few ∙ ap (relabel s.high s.low) (tabled (length ss) t (omega arith) few)
-    ∙ sym (ap (λ (l : List Step). label l t) (ap (until (ss ++ s ∷ [])) (q ∙ sym (length_push ss s)) ∙ log_push ss s)))
-    (λ (q : k ≡ length ss + 1 → ⊥).
-    let low : k ≤ length ss = omega (arith, length_push ss s) in
-    ap (λ (x : List ℕ). get_or x t 0) (get_or_append_left rows (row ∷ []) [] k (omega arith)) ∙ tabled k t low few ∙ ap (λ (l : List Step). label l t) (sym (until_push ss s k low)))
-    (cases_eq k (length ss + 1))
+module _ (m : ℕ) (rows rows' : List (List ℕ)) (ss : List Step) (s : Step) (room : length ss + 1 < length rows) (tabled : Tabled rows ss) (own : Own m rows) (below : s.high < m)
+    (w : Renamed rows rows' (length ss) m s.high s.low) where
+  -- the labels after one more merge
+  new_row : (t : ℕ) → t < 256 → cell rows' (length ss + 1) t ≡ relabel s.high s.low (label_at ss (length ss) t)
+  new_row t few =
+      let before : cell rows (length ss) t ≡ label_at ss (length ss) t = tabled (length ss) t (omega arith) few in
+      ⊎_elim
+      (λ (l : t < m). w.written t l ∙ ap (relabel s.high s.low) before)
+      (λ (l : m ≤ t).
+      w.beyond t l ∙ own (length ss + 1) t room l few
+      ∙ sym (ap (relabel s.high s.low) (sym before ∙ own (length ss) t (omega (arith, room)) l few) ∙ relabel_other s.high s.low t (λ e. omega (arith, e, below, l))))
+      (cases_lt t m)
+
+  tabled_more : Tabled rows' (ss ++ s ∷ [])
+  tabled_more k t h few = ⊎_elim
+      (λ (q : k ≡ length ss + 1).
+      ap (λ (j : ℕ). cell rows' j t) q ∙ new_row t few
+      ∙ sym (ap (λ (l : List Step). label l t) (ap (until (ss ++ s ∷ [])) (q ∙ sym (length_push ss s)) ∙ log_push ss s)))
+      (λ (q : k ≡ length ss + 1 → ⊥).
+      let low : k ≤ length ss = omega (arith, length_push ss s) in
+      w.kept k t q ∙ tabled k t low few ∙ ap (λ (l : List Step). label l t) (sym (until_push ss s k low)))
+      (cases_eq k (length ss + 1))
+
+  own_more : Own m rows'
+  own_more k t l past few = ⊎_elim
+      (λ (q : k ≡ length ss + 1). ap (λ (j : ℕ). cell rows' j t) q ∙ w.beyond t past ∙ own (length ss + 1) t room past few)
+      (λ (q : k ≡ length ss + 1 → ⊥). w.kept k t q ∙ own k t (omega (arith, l, w.long)) past few)
+      (cases_eq k (length ss + 1))
 
 -- a row of merges with one more
 pub record Pushed (ts : List Term) (ss rs : List Step) (rows : List (List ℕ)) (a b : ℕ) (reason : Reason) : Type 0 where
   pub ran : Ran ss rs (merge (log ss) a b reason ∷ log ss)
   pub formed : Formed ts (log rs)
   pub tabled : Tabled rows rs
+  pub own : Own (length ts) rows
   pub more : length rs ≡ length ss + 1
 
-pub pushed : (ts : List Term) (ss rs : List Step) (rows rows' : List (List ℕ)) (row : List ℕ) (a b high low : ℕ) (reason : Reason)
-    → rs ≡ ss ++ record { left = a; right = b; high = high; low = low; reason = reason } ∷ [] → rows' ≡ rows ++ row ∷ []
-    → Formed ts (log ss) → length rows ≡ length ss + 1 → Tabled rows ss → a < length ts → b < length ts
+pub pushed : (ts : List Term) (ss rs : List Step) (rows rows' : List (List ℕ)) (a b high low : ℕ) (reason : Reason)
+    → rs ≡ ss ++ record { left = a; right = b; high = high; low = low; reason = reason } ∷ [] → Renamed rows rows' (length ss) (length ts) high low
+    → Formed ts (log ss) → length ss + 1 < length rows → Tabled rows ss → Own (length ts) rows → a < length ts → b < length ts
     → (label (log ss) a ≡ label (log ss) b → ⊥) → RestsOn ts (λ p x y. Unit {0}) (label (log ss)) a b reason
     → high ≡ max (label (log ss) a) (label (log ss) b) → low ≡ min (label (log ss) a) (label (log ss) b)
-    → ((t : ℕ) → t < 256 → get_or row t 0 ≡ relabel high low (cell rows (length ss) t))
     → Pushed ts ss rs rows' a b reason
-pushed ts ss rs rows rows' row a b high low reason er ew formed long tabled ha hb apart rests hi lo each =
-    subst (λ (x : List Step). Pushed ts ss x rows' a b reason) (sym er) (subst (λ (x : List (List ℕ)). Pushed ts ss (ss ++ s ∷ []) x a b reason) (sym ew) (record {
+pushed ts ss rs rows rows' a b high low reason er w formed room tabled own ha hb apart rests hi lo =
+    subst (λ (x : List Step). Pushed ts ss x rows' a b reason) (sym er) (record {
       ran = record { log_is = grown; before = until_push ss s; rise = omega (arith, length_push ss s) };
       formed = subst (Formed ts) (sym grown) (merged ts (λ p x y. Unit {0}) (log ss) a b reason formed ha hb apart rests);
-      tabled = tabled_push rows ss row s long tabled each;
+      tabled = tabled_more (length ts) rows rows' ss s room tabled own below w;
+      own = own_more (length ts) rows rows' ss s room tabled own below w;
       more = length_push ss s;
-    }))
+    })
   where
     s : Step
     s = record { left = a; right = b; high = high; low = low; reason = reason }
+
+    below : high < length ts
+    below = omega (arith, hi, ha, hb, label_low ts (λ p x y. Unit {0}) (log ss) formed a, label_low ts (λ p x y. Unit {0}) (log ss) formed b)
 
     grown : log (ss ++ s ∷ []) ≡ merge (log ss) a b reason ∷ log ss
     grown = log_push ss s ∙ ap (λ (x : Step). x ∷ log ss)
@@ -92,20 +113,16 @@ pub record Cut (ts : List Term) (ss rs : List Step) (rows : List (List ℕ)) (k 
   pub formed : Formed ts (log rs)
   pub tabled : Tabled rows rs
   pub long : length rs ≡ k
-  pub rows_long : length rows ≡ k + 1
 
-pub cut : (ts : List Term) (ss rs : List Step) (rows rows' : List (List ℕ)) (k : ℕ) → rs ≡ take k ss → rows' ≡ take (k + 1) rows → k ≤ length ss
-    → Formed ts (log ss) → length rows ≡ length ss + 1 → Tabled rows ss → Cut ts ss rs rows' k
-cut ts ss rs rows rows' k er ew h formed long tabled =
-    subst (λ (x : List Step). Cut ts ss x rows' k) (sym er) (subst (λ (x : List (List ℕ)). Cut ts ss (take k ss) x k) (sym ew) (record {
+pub cut : (ts : List Term) (ss rs : List Step) (rows : List (List ℕ)) (k : ℕ) → rs ≡ take k ss → k ≤ length ss
+    → Formed ts (log ss) → Tabled rows ss → Cut ts ss rs rows k
+cut ts ss rs rows k er h formed tabled =
+    subst (λ (x : List Step). Cut ts ss x rows k) (sym er) (record {
       before = until_take ss k;
       formed = subst (Formed ts) (sym (ap (until (take k ss)) left ∙ until_take ss k k (omega arith))) (formed_upto ts ss k h formed);
-      tabled = λ j t a few.
-          ap (λ (x : List ℕ). get_or x t 0) (get_or-take (k + 1) rows j [] (omega (arith, left))) ∙ tabled j t (omega (arith, left)) few
-          ∙ ap (λ (l : List Step). label l t) (sym (until_take ss k j (omega (arith, left))));
+      tabled = λ j t a few. tabled j t (omega (arith, a, left, h)) few ∙ ap (λ (l : List Step). label l t) (sym (until_take ss k j (omega (arith, a, left))));
       long = left;
-      rows_long = length-take-le (k + 1) rows (omega arith);
-    }))
+    })
   where
     left : length (take k ss) ≡ k
     left = length-take-le k ss h

@@ -17,7 +17,7 @@ differ t u row = not (eqb (get_or row t 0) (get_or row u 0))
 abbrev pub rows_after : List (List ℕ) → ℕ → List (List ℕ)
 rows_after rows n = take ((n + 1) - 1) (drop 1 rows)
 
-module _ (ss : List Step) (rows : List (List ℕ)) (t u n : ℕ) (tabled : Tabled rows ss) (long : length rows ≡ length ss + 1) (few : n ≤ length ss) (ht : t < 256) (hu : u < 256) where
+module _ (ss : List Step) (rows : List (List ℕ)) (t u n : ℕ) (tabled : Tabled rows ss) (long : length ss < length rows) (few : n ≤ length ss) (ht : t < 256) (hu : u < 256) where
   size : length (rows_after rows n) ≡ n
   size = length-take-le ((n + 1) - 1) (drop 1 rows) (omega (arith, length-drop 1 rows, long)) ∙ (let e : (n + 1) - 1 ≡ n = omega arith in e)
 

@@ -6,3 +6,4 @@ pub mod Joining
 pub mod Asking
 pub mod Writing
 pub mod Holding
+pub mod Renaming

@@ -6,7 +6,7 @@ ghost use Rattle.congruence.specs.Table.{arg};
 ghost use Rattle.congruence.specs.Merges.{relabel, label, twin, merge, pass, sweep, settle, absorb, pair_of};
 ghost use Rattle.congruence.specs.Log.{RestsOn, Formed};
 ghost use Rattle.equality.specs.Index.{SameHead};
-ghost use Rattle.equality.specs.Logs.{log, label_at, Tabled, Ran};
+ghost use Rattle.equality.specs.Logs.{log, label_at, Tabled, Own, Renamed, Ran};
 ghost use Rattle.congruence.proofs.Formed.{Formed-prop};
 
 use crate::terms::Terms;
@@ -15,8 +15,9 @@ use std::alloc::{AllocError, Global};
 use std::array;
 use theory::Literal;
 
-/// The merges so far, oldest first. `rows[k][t]` is the label of `t` after the first `k` merges,
-/// so that there is one row more than merges.
+/// The merges so far, oldest first. `rows[k][t]` is the label of `t` after the first `k` merges.
+/// There is a row for as many merges as there can be, and a merge writes the labels of the terms
+/// into its own, so that it costs no more than there are terms.
 // Steps and rows stand apart, for a row comes first. That a term is one of the table is asked by
 // each method: no type of a number could name the table.
 #[derive(Drop)]
@@ -25,10 +26,11 @@ pub(crate) struct Closure<'a> {
     pub(crate) steps: Vec<Step>,
     pub(crate) rows: Vec<[u16; 256]>,
     ghost formed: { Formed terms.records.now (log steps.items) } by { Formed-prop terms.records.now (log steps.items) },
-    ghost rows_long: { length rows.items ≡ length steps.items + 1 },
+    ghost few: { length steps.items ≤ length terms.records.now },
+    ghost rows_long: { length rows.items ≡ length terms.records.now + 1 },
     ghost tabled: { Tabled rows.items steps.items },
+    ghost own: { Own (length terms.records.now) rows.items },
     ghost room: { length terms.records.now ≤ vec_capacity steps },
-    ghost rows_room: { length terms.records.now < vec_capacity rows },
 }
 
 /// The labels before any merge: each term has its own number.
@@ -46,13 +48,15 @@ fn renamed(x: u16, high: u16, low: u16) -> u16
     if x == high { low } else { x }
 }
 
-/// Makes a row of labels that of one more merge.
-fn rename(row: &mut [u16; 256], high: u16, low: u16)
-    ensures { (t : ℕ) → t < 256
-        → slice_index row.new t ≡ relabel high low (slice_index row.old t) }
+/// Makes the labels of the first `m` terms after the merge numbered `k` those of one more merge.
+fn rename(rows: &mut [[u16; 256]], k: usize, m: usize, high: u16, low: u16)
+    requires next { k + 1 < length rows.old }
+    requires few { m ≤ 256 }
+    ensures { Renamed rows.old rows.new k m high low }
 {
-    for x in row.iter_mut() {
-        *x = renamed(*x, high, low);
+    // By number: what an adapter of `iter_mut` wrote would not be known afterwards.
+    for t in 0..m {
+        rows[k + 1][t] = renamed(rows[k][t], high, low);
     }
 }
 
@@ -67,10 +71,7 @@ impl<'a> Closure<'a> {
     {
         let m = table.records.len();
         let steps = Vec::with_capacity(heap, m)?;
-        // The rows are written once here, so that no merge is the first to touch its memory.
-        let mut rows = vec![in heap; [0; 256]; m + 1]?;
-        rows.clear();
-        rows.push_reserved(own_labels());
+        let rows = vec![in heap; own_labels(); m + 1]?;
         let mut closure = Closure {
             terms: table,
             steps,
@@ -150,9 +151,7 @@ impl<'a> Closure<'a> {
         let y = self.label(k, b);
         let high = x.max(y);
         let low = x.min(y);
-        let mut row = self.rows[k];
-        rename(&mut row, high, low);
-        self.rows.push_reserved(row);
+        rename(&mut self.rows, k, self.terms.records.len(), high, low);
         self.steps.push_reserved(Step {
             left: a,
             right: b,
@@ -228,6 +227,5 @@ impl<'a> Closure<'a> {
         ensures steps { (steps_of self.new) ≡ take k (steps_of self.old) }
     {
         self.steps.truncate(k);
-        self.rows.truncate(k + 1);
     }
 }

@@ -127,10 +127,10 @@ impl Closure<'_> {
         ensures { let m = length (records_of self.now) in
             place.new ≡ over (row 0 m (λ t. pos (label (merged self.now) t))) place.old }
     {
-        let k = self.merges();
+        let row = &self.rows[self.merges()];
         // By number: what an adapter of `iter_mut` wrote would not be known afterwards.
-        for t in 0..self.terms.len() {
-            place[usize::from(t)] = i64::from(self.label(k, t));
+        for t in 0..self.terms.records.len() {
+            place[t] = i64::from(row[t]);
         }
     }
 }

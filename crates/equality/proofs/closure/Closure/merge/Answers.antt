@@ -1,36 +1,53 @@
-use Rattle.std.proofs.Common.{◌≡◌, ℕ, ◌<◌, List, [], length, get_or, ap, ◌∙◌, arith}
-use Rattle.std.proofs.lemmas.List.{get_or_default}
-use Rattle.congruence.specs.Merges.{label, relabel}
-use Rattle.equality.specs.Logs.{log, label_at, cell}
+use Rattle.std.proofs.Common.{◌≡◌, ℕ, ◌<◌, List, length, vec_items, sym, ap, ◌∙◌, subst, arith}
+use Rattle.std.specs.Vec.{with_items}
+use Rattle.std.proofs.lemmas.List.{with_items_is}
+use Rattle.congruence.specs.Merges.{label}
+use Rattle.equality.specs.declared.closure.Closure.{Closure}
+use Rattle.equality.specs.Logs.{log, label_at, Renamed}
 use Rattle.equality.proofs.Growing.{Pushed, pushed, merges_room}
 use Rattle.equality.proofs.closure.Closure.merge.Goals as goal
-use Rattle.equality.proofs.closure.Closure.merge.Goals.{After-push_reserved-2}
+use Rattle.equality.proofs.closure.Closure.merge.Goals.{After-push_reserved}
 
 -- there are fewer merges than terms
-room : (c : goal.After-push_reserved-arg-1) → length c.args.self.now.steps.items < length c.args.self.now.terms.records.now
-room c = merges_room c.args.self.now.terms.records.now c.args.self.now.steps.items c.args.a c.args.self.now.formed c.requires.left
+fewer : (s : Closure) (a : ℕ) → a < length s.terms.records.now → length (vec_items s.steps) < length s.terms.records.now
+fewer s a h = merges_room s.terms.records.now s.steps.items a s.formed h
+
+pub rename-requires-clause-next : goal.rename-requires-clause-next
+rename-requires-clause-next c =
+    let s = c.args.self.now in
+    omega (arith, fewer s c.args.a c.requires.left, c.merges-k.ensures, s.rows_long, ap length c.deref_mut.ensures.value)
 
 pub push_reserved-requires : goal.push_reserved-requires
-push_reserved-requires c = omega (arith, room c, c.args.self.now.rows_long, c.args.self.now.rows.ok.0, c.args.self.now.rows_room)
-
-pub push_reserved-requires-2 : goal.push_reserved-requires-2
-push_reserved-requires-2 c =
+push_reserved-requires c =
     let s = c.args.self.now in
-    omega (arith, merges_room s.terms.records.now s.steps.items c.args.a s.formed c.requires.left, s.steps.ok.0, s.room)
+    omega (arith, fewer s c.args.a c.requires.left, s.steps.ok.0, s.room)
 
-more : (c : goal.After-push_reserved-2) → Pushed c.args.self.now.terms.records.now c.args.self.now.steps.items c.push_reserved-2.new.self.items c.push_reserved.new.self.items c.args.a c.args.b c.args.reason
+-- what was written into the next row
+renamed : (c : After-push_reserved)
+    → Renamed c.args.self.now.rows.items c.rename.new.rows (length c.args.self.now.steps.items) (length c.args.self.now.terms.records.now) c.max-high.result c.min-low.result
+renamed c =
+    let s = c.args.self.now in
+    let m = length s.terms.records.now in
+    subst (λ (n : ℕ). Renamed s.rows.items c.rename.new.rows n m c.max-high.result c.min-low.result) c.merges-k.ensures
+    (subst (λ (rows : List (List ℕ)). Renamed rows c.rename.new.rows c.merges-k.result m c.max-high.result c.min-low.result) c.deref_mut.ensures.value c.rename.ensures)
+
+same_rows : (c : After-push_reserved) → (with_items c.args.self.now.rows c.rename.new.rows).items ≡ c.rename.new.rows
+same_rows c = with_items_is c.args.self.now.rows c.rename.new.rows ((renamed c).long ∙ sym c.args.self.now.rows.ok.0)
+
+more : (c : After-push_reserved)
+    → Pushed c.args.self.now.terms.records.now c.args.self.now.steps.items c.push_reserved.new.self.items (with_items c.args.self.now.rows c.rename.new.rows).items c.args.a c.args.b c.args.reason
 more c =
     let s = c.args.self.now in
-    let k : c.merges-k.result ≡ length s.steps.items = c.merges-k.ensures in
-    let at : (t : ℕ) → label_at s.steps.items c.merges-k.result t ≡ label (log s.steps.items) t = λ t. ap (λ (n : ℕ). label_at s.steps.items n t) k in
-    let row : (t : ℕ) → get_or c.index.result.now t 0 ≡ cell s.rows.items (length s.steps.items) t = λ t.
-    ap (λ (x : List ℕ). get_or x t 0) (c.index.ensures ∙ get_or_default s.rows.items c.merges-k.result _ [] (omega (arith, k, s.rows_long)) ∙ ap (λ (n : ℕ). get_or s.rows.items n []) k) in
-    pushed s.terms.records.now s.steps.items c.push_reserved-2.new.self.items s.rows.items c.push_reserved.new.self.items c.rename.new.row
-    c.args.a c.args.b c.max-high.result c.min-low.result c.args.reason c.push_reserved-2.ensures.items c.push_reserved.ensures.items s.formed s.rows_long s.tabled c.requires.left c.requires.right
-    c.requires.apart c.requires.rests
+    let ts = s.terms.records.now in
+    let ss = s.steps.items in
+    let high = c.max-high.result in
+    let low = c.min-low.result in
+    let at : (t : ℕ) → label_at ss c.merges-k.result t ≡ label (log ss) t = λ t. ap (λ (n : ℕ). label_at ss n t) c.merges-k.ensures in
+    pushed ts ss c.push_reserved.new.self.items s.rows.items (with_items s.rows c.rename.new.rows).items c.args.a c.args.b high low c.args.reason c.push_reserved.ensures.items
+    (subst (λ (rows : List (List ℕ)). Renamed s.rows.items rows (length ss) (length ts) high low) (sym (same_rows c)) (renamed c))
+    s.formed (omega (arith, fewer s c.args.a c.requires.left, s.rows_long)) s.tabled s.own c.requires.left c.requires.right c.requires.apart c.requires.rests
     (omega (arith, c.max-high.ensures, c.label-x.ensures, c.label-y.ensures, at c.args.a, at c.args.b))
     (omega (arith, c.min-low.ensures, c.label-x.ensures, c.label-y.ensures, at c.args.a, at c.args.b))
-    (λ t h. c.rename.ensures t h ∙ ap (relabel c.max-high.result c.min-low.result) (row t))
 
 pub invariant_of-self : goal.invariant_of-self
 invariant_of-self c =
@@ -38,11 +55,12 @@ invariant_of-self c =
     let w = more c in
     record {
       formed = w.formed;
-      rows_long = omega (arith, w.more, s.rows_long, s.rows.ok.0, c.push_reserved.ensures.len, c.push_reserved.new.self.ok.0);
+      few = omega (arith, w.more, fewer s c.args.a c.requires.left);
+      rows_long = ap length (same_rows c) ∙ (renamed c).long ∙ s.rows_long;
       tabled = w.tabled;
-      room = omega (arith, s.room, c.push_reserved-2.ensures.capacity);
-      rows_room = omega (arith, s.rows_room, c.push_reserved.ensures.capacity);
+      own = w.own;
+      room = omega (arith, s.room, c.push_reserved.ensures.capacity);
     }
 
 pub returns-clause-ran : goal.returns-clause-ran
-returns-clause-ran c = (more (goal.at.returns-clause-ran c).After-push_reserved-2).ran
+returns-clause-ran c = (more (goal.at.returns-clause-ran c).After-push_reserved).ran
