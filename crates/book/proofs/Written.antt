@@ -1,5 +1,5 @@
 -- What written names and numbers are as words. Assumes nothing.
-use Rattle.std.proofs.Common.{◌≡◌, ℕ, ◌^◌, ◌<◌, ◌≤◌, Bool, true, false, cond, ◌&&◌, eqb, leb, ltb, List, [], ◌∷◌, map, length, Some, None, decimal, refl, ap, ◌∙◌, arith, rules}
+use Rattle.std.proofs.Common.{◌≡◌, ℕ, ◌^◌, ◌<◌, ◌≤◌, Bool, true, false, cond, ◌&&◌, eqb, leb, ltb, List, [], ◌∷◌, map, length, get_or, Some, None, decimal, refl, ap, ◌∙◌, arith, rules}
 use Rattle.std.specs.Char.{is_ascii_digit}
 use Rattle.std.specs.List.{AllByRecursion, list_all}
 use Rattle.std.specs.Str.{bytes_eq}
@@ -115,6 +115,11 @@ own = numerals_by_fold _ (search rules) value_after (search rules)
 
 digit_within : (b : ℕ) → is_ascii_digit b ≡ true → (48 ≤ b) × (b ≤ 57)
 digit_within b h = let q = and_parts (leb 48 b) (leb b 57) h in (leb-true 48 b q.0, leb-true b 57 q.1)
+
+-- a word that begins with a digit or a sign is no name
+pub no_letter : (w : List ℕ) → 1 ≤ length w → get_or w 0 0 ≤ 57 → name_of w ≡ None
+no_letter [] some low = absurd (omega (arith, some))
+no_letter (b ∷ bs) some low = none_spelled _ b bs low
 
 no_name : (w : List ℕ) → 0 < length w → digits w ≡ true → name_of w ≡ None
 no_name [] some h = absurd (omega arith)

@@ -160,10 +160,14 @@ fn spelled(names: &[Name], word: &[u8]) -> Option<Name>
     names.iter().copied().find(|name| spells(*name, word))
 }
 
+/// The name that a word spells. No name begins with a digit or a sign, so numbers are not compared with any.
 fn known(word: &[u8]) -> Option<Name>
     ensures { result ≡ name_of word.now }
 {
-    spelled(&NAMES, word)
+    match word {
+        [first, ..] if *first <= b'9' => None,
+        _ => spelled(&NAMES, word),
+    }
 }
 
 fn all_digits(word: &[u8]) -> bool
