@@ -16,7 +16,7 @@ mod text;
 mod watch;
 
 use answers::answers;
-use book::{Claims, Purpose};
+use book::{Book, Claims, Purpose};
 use clap::error::ErrorKind;
 use failure::{Failed, Failure, NO_MEMORY};
 use options::{Job, Options, Solving};
@@ -49,16 +49,26 @@ fn purpose_of(job: Job<'_>) -> Purpose {
     }
 }
 
-/// What a theory says to a book.
+/// What a theory says to a book. Calls are answered without the text, so it is let go before.
 fn served<T: Theory + Drop>(
     rt: &HostRuntime,
     made: Result<T, Unmade>,
     job: Job<'_>,
-    reading: Reading<'_>,
+    file: &str,
+    text: Vec<u8>,
+    book: &Book,
 ) -> Result<Told, Failure> {
+    let reading = Reading {
+        file,
+        text: &text,
+        book,
+    };
     let mut theory = made.map_err(|why| reading.unmade(why))?;
     match job {
-        Job::Ask => Ok(Told::plain(answers(rt.alloc(), &mut theory, &reading.book.calls)?)),
+        Job::Ask => {
+            drop(text);
+            Ok(Told::plain(answers(rt.alloc(), &mut theory, &book.calls)?))
+        }
         Job::Replay(replaying) => replayed(rt.alloc(), theory, reading, replaying),
         Job::Solve(solving) => solved(rt, theory, reading, solving),
     }
@@ -78,19 +88,14 @@ fn told(rt: &HostRuntime, job: Job<'_>, file: &str) -> Result<Told, Failure> {
     {
         book.allowance = allowance;
     }
-    let reading = Reading {
-        file,
-        text: &text,
-        book: &book,
-    };
     match &book.claims {
         Claims::Equality(claims) => {
             let made = equality::make(heap, &book.terms, claims);
-            served(rt, made, job, reading)
+            served(rt, made, job, file, text, &book)
         }
         Claims::Distance(claims) => {
             let made = distance::make(heap, &book.terms, claims);
-            served(rt, made, job, reading)
+            served(rt, made, job, file, text, &book)
         }
     }
 }
@@ -133,11 +138,14 @@ fn tell<'a>(
     }
 }
 
+/// Adds what is said of one book. What is said of a book alone is all there is, and is not copied.
 fn add(all: &mut Told, file: &str, named: bool, told: Told) -> Result<(), AllocError> {
-    if named {
-        let file = FileName(file);
-        writeln!(all.text, "{file}:")?;
+    if !named {
+        *all = told;
+        return Ok(());
     }
+    let file = FileName(file);
+    writeln!(all.text, "{file}:")?;
     all.text.push_str(told.text.as_str())?;
     all.verdict = told.verdict;
     Ok(())
