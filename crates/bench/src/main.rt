@@ -102,7 +102,7 @@ fn run<T: Theory + Drop>(
     made: Result<T, Unmade>,
     last: u16,
 ) -> anyhow::Result<()> {
-    let mut theory = made.map_err(|e| anyhow!("{name}: {e}"))?;
+    let mut theory = made.map_err(|_| anyhow!("no theory was made"))?;
     let mut core = vec![in rt.alloc(); 0u16; 128]?;
     let start = Instant::now(rt)?;
     let told = assert_all(&mut theory, last);
