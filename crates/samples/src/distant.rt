@@ -140,6 +140,22 @@ fn claims_on_two_terms(rt: HostRuntime) -> Result<(), Fail> {
     Ok(())
 }
 
+/// The limits and causes of tables without claims.
+#[test]
+fn without_claims(rt: HostRuntime) -> Result<(), Fail> {
+    let heap = rt.alloc();
+    for (terms, wanted) in [(256, None), (257, refused(Refusal::PastLimit))] {
+        assert_eq!(rt; make(heap, &constants(heap, terms)?, &[]).err(), wanted);
+    }
+    for (arity, cause) in [(1, Refusal::TermHasArgument), (3, Refusal::PastLimit)] {
+        assert_eq!(rt;
+            make(heap, &[constant(0), applied(arity)], &[]).err(),
+            refused(cause)
+        );
+    }
+    Ok(())
+}
+
 /// A term with so many arguments, all of them the term 0.
 fn applied(arity: u8) -> Term {
     Term {

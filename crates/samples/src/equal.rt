@@ -116,6 +116,28 @@ fn causes(rt: HostRuntime) {
     }
 }
 
+/// Tables without claims, and tables of one term.
+#[test]
+fn causes_in_small_tables(rt: HostRuntime) {
+    let heap = rt.alloc();
+    assert_eq!(rt;
+        make(heap, &[constant(0), applied(1, 3, 0, 0)], &[]).err(),
+        refused(Refusal::PastLimit)
+    );
+    assert_eq!(rt;
+        make(heap, &[constant(0), applied(1, 1, 1, 0)], &[]).err(),
+        refused(Refusal::ArgumentNotLower)
+    );
+    assert_eq!(rt;
+        make(heap, &[constant(0)], &[same(0, 1)]).err(),
+        refused(Refusal::NoSuchTerm)
+    );
+    assert_eq!(rt;
+        make(heap, &[applied(1, 2, 0, 0)], &[same(9, 0)]).err(),
+        refused(Refusal::ArgumentNotLower)
+    );
+}
+
 #[test]
 fn edges(rt: HostRuntime) -> Result<(), Fail> {
     let terms = constants(rt.alloc(), 3)?;
