@@ -1,13 +1,13 @@
 -- One line of a book more. Assumes nothing.
-use Rattle.std.proofs.Common.{◌≡◌, ℕ, ◌+◌, List, [], ◌∷◌, IsErrAnd, Ok, Err, Result, sym, refl, ap, ◌∙◌, arith}
+use Rattle.std.proofs.Common.{◌≡◌, ℕ, ◌+◌, ◌<◌, List, [], ◌∷◌, length, get_or, IsErrAnd, Ok, Err, Result, sym, refl, ap, ◌∙◌, arith}
 use Rattle.book.specs.declared.fault.Fault.{Fault}
 use Rattle.book.specs.declared.fault.Unread.{Unread}
 use Rattle.book.specs.declared.fault.Unread.TheVariants.{Fault as Faulty, NoMemory}
 use Rattle.book.specs.declared.reading.Purpose.{Purpose}
 use Rattle.book.specs.declared.reading.Stage.{Stage}
 use Rattle.book.specs.declared.reading.Stage.TheVariants.{Start, Terms, Claims, Clauses, Rows, Allowance, Calls, Steps}
-use Rattle.book.specs.Words.{words_of}
-use Rattle.book.specs.Lines.{Saying, and_then, said_by}
+use Rattle.book.specs.Words.{words_among, words_of}
+use Rattle.book.specs.Lines.{Saying, nothing, and_then, said_by}
 use Rattle.book.specs.Books.{Contents, adds, stage_after, theory_at, at_line, turn, ended, reads, Tells}
 
 -- ---- replies
@@ -19,13 +19,23 @@ tells_on (Err NoMemory) f m e g k h t on = tt
 tells_on (Err (Faulty d)) f m (Faulty x) g k h t on = let s : d ≡ x = cc in on x t ∙ ap Err (sym s)
 tells_on (Err (Faulty d)) f m NoMemory g k h t on = absurd (let z : ◌≡◌ {A = ℕ} 0 1 = cc in omega arith)
 
-module _ (p : Purpose) where
-  -- ---- one line
+-- ---- one line
 
+-- a line without bytes, or that begins with its comment, has no words
+pub bare : (line : List ℕ) → (0 < length line → get_or line 0 0 ≡ 35) → words_of line ≡ []
+unfolding words_among
+bare [] h = refl
+bare (b ∷ bs) h = ap (λ b. words_of (b ∷ bs)) (h (omega arith))
+
+module _ (p : Purpose) where
   pub turn_done : (n : ℕ) (s : Stage) (b : Contents) (line : List ℕ) (said : Saying) (next : Stage) → said_by (theory_at s b) (words_of line) ≡ Ok said → stage_after p s said ≡ Ok next → turn p n s b line ≡ Ok (next, adds n b said)
   unfolding turn
   turn_done n s b line said next e g =
       ap (λ r. at_line n (and_then r (λ said. and_then (stage_after p s said) (λ next. Ok (next, adds n b said))))) e ∙ ap (λ r. at_line n (and_then r (λ next. Ok (next, adds n b said)))) g
+
+  -- a line without words says nothing
+  pub turn_wordless : (n : ℕ) (s : Stage) (b : Contents) (line : List ℕ) → words_of line ≡ [] → turn p n s b line ≡ Ok (s, b)
+  turn_wordless n s b line e = turn_done n s b line nothing s (ap (said_by (theory_at s b)) e) refl
 
   -- ---- all lines
 

@@ -1,11 +1,12 @@
 -- What written names and numbers are as words. Assumes nothing.
-use Rattle.std.proofs.Common.{◌≡◌, ℕ, ◌^◌, ◌<◌, ◌≤◌, Bool, true, false, cond, ◌&&◌, eqb, leb, ltb, List, [], ◌∷◌, map, length, get_or, Some, None, decimal, refl, ap, ◌∙◌, arith, rules}
+use Rattle.std.proofs.Common.{◌≡◌, ℕ, ◌^◌, ◌<◌, ◌≤◌, Bool, true, false, cond, ◌&&◌, eqb, leb, ltb, List, [], ◌∷◌, map, length, get_or, Some, None, decimal, sym, refl, ap, ◌∙◌, ⊎_elim, arith, rules}
 use Rattle.std.specs.Char.{is_ascii_digit}
-use Rattle.std.specs.List.{AllByRecursion, list_all}
+use Rattle.std.specs.List.{AllByRecursion, list_all, filter}
 use Rattle.std.specs.Str.{bytes_eq}
 use Rattle.std.proofs.lemmas.Fmt.{decimal_nonempty, digits_decimal, digits_value-decimal}
 use Rattle.std.proofs.lemmas.Str.Parse.{IsNumeralModel, numerals_by_fold}
-use Rattle.std.proofs.lemmas.Bool.{cond-false, not_from_false, ne_eqb, and_from, and_parts, and_left, leb-true, ltb-true, lt-ltb}
+use Rattle.std.proofs.lemmas.Slice.Eq.{bytes_eq-Decides}
+use Rattle.std.proofs.lemmas.Bool.{cases_Bool, false_from_ne_true, eqb-false, cond-false, not_from_false, ne_eqb, and_from, and_parts, and_left, leb-true, ltb-true, lt-ltb}
 use Rattle.book.specs.declared.word.Name.{Name}
 use Rattle.book.specs.declared.word.Name.TheVariants.{Kind as kind, Ask as ask, Rule as rule, Sort as sort}
 use Rattle.book.specs.declared.word.Kind.TheVariants.{Theory, Term, Claim, Clause, Row, Allowance, Call, Step}
@@ -103,6 +104,18 @@ unfolding first_spelled
 none_spelled [] b bs h = refl
 none_spelled (n ∷ ns) b bs h = ap (λ t. cond t (Some n) (first_spelled ns (b ∷ bs))) (differs n b bs h) ∙ none_spelled ns b bs h
 
+-- the first of some names that a word spells is the first among those of its length
+pub first_of_length : (ns : List Name) (w : List ℕ) → first_spelled (filter (λ n. eqb (length (spelling n)) (length w)) ns) w ≡ first_spelled ns w
+unfolding first_spelled
+first_of_length [] w = refl
+first_of_length (n ∷ ns) w =
+    let rest = filter (λ n. eqb (length (spelling n)) (length w)) ns in
+    ⊎_elim
+    (λ e. ap (λ t. first_spelled (cond t (n ∷ rest) rest) w) e ∙ ap (cond (bytes_eq w (spelling n)) (Some n)) (first_of_length ns w))
+    (λ e. let other : bytes_eq w (spelling n) ≡ false = false_from_ne_true _ (λ t. eqb-false _ _ e (ap length (sym ((bytes_eq-Decides w (spelling n)).0 t)))) in
+    ap (λ t. first_spelled (cond t (n ∷ rest) rest) w) e ∙ first_of_length ns w ∙ sym (ap (λ t. cond t (Some n) (first_spelled ns w)) other))
+    (cases_Bool (eqb (length (spelling n)) (length w)))
+
 -- ---- numbers
 
 -- the word that a number without a sign is
@@ -123,7 +136,7 @@ no_letter (b ∷ bs) some low = none_spelled _ b bs low
 
 no_name : (w : List ℕ) → 0 < length w → digits w ≡ true → name_of w ≡ None
 no_name [] some h = absurd (omega arith)
-no_name (b ∷ bs) some h = none_spelled _ b bs (digit_within b (and_parts (is_ascii_digit b) (digits bs) h).0).1
+no_name (b ∷ bs) some h = no_letter (b ∷ bs) some (digit_within b (and_parts (is_ascii_digit b) (digits bs) h).0).1
 
 pub number_plain : (n : ℕ) → n < 2 ^ 64 → Plain (decimal n)
 number_plain n h = plain_by is_ascii_digit (λ b k. let q = digit_within b k in omega (arith, q.0)) (decimal n) (decimal_nonempty n h) (digits_decimal own n h)

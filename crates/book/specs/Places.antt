@@ -1,5 +1,5 @@
 -- Where lines stand. Assumes nothing.
-use Rattle.std.specs.Prelude.{ℕ, ◌+◌, Bool, true, false, if◌then◌else◌, List, [], ◌∷◌, Option, Some, None}
+use Rattle.std.specs.Prelude.{ℕ, ◌+◌, Bool, false, if◌then◌else◌, List, [], ◌∷◌, Option, Some, None}
 use Rattle.std.specs.List.{find, slice_split, before_first}
 use Rattle.std.specs.Str.{bytes_eq}
 use Rattle.book.specs.declared.word.Kind.{Kind}

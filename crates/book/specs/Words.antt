@@ -50,6 +50,10 @@ names =
     ∷ rule Fit ∷ rule NoFit
     ∷ sort Equality ∷ sort Distance ∷ []
 
+-- the names of k bytes, in the order of `names`
+abbrev pub names_of_length : ℕ → List Name
+names_of_length k = filter (λ n. length (spelling n) == k) names
+
 -- the first of some names that a word spells
 unfoldable pub first_spelled : List Name → List ℕ → Option Name
 first_spelled ns w = find (λ n. bytes_eq w (spelling n)) ns

@@ -143,6 +143,10 @@ fn read_line(
 ) -> Result<Stage, Unread>
     ensures { Tells result (λ s. (s, contents_of book.new)) (turn purpose line stage (contents_of book.old) bytes.now) }
 {
+    // A line that is empty or begins with its comment: what follows would find no words in it, with more work.
+    if bytes.is_empty() || bytes[0] == b'#' {
+        return Ok(stage);
+    }
     let words = words(heap, bytes)?;
     let said = meaning(heap, theory(stage, book), &words).map_err(|unsaid| unsaid.at(line))?;
     let stage = next(purpose, stage, &said).map_err(|wrong| Fault { line, wrong })?;

@@ -1,7 +1,7 @@
 //! The words of a line.
 ghost use Rattle.std.specs.Prelude.{◌≡◌, IfOk, Some};
 ghost use Rattle.std.specs.Str.{bytes_eq};
-ghost use Rattle.book.specs.Words.{spelling, first_spelled, name_of, digits, value_after, held, numeral, number_of, word_of, words_of};
+ghost use Rattle.book.specs.Words.{spelling, names_of_length, first_spelled, name_of, digits, value_after, held, numeral, number_of, word_of, words_of};
 
 use crate::scan::{before_comment, is_blank};
 use std::alloc::{AllocError, Global};
@@ -107,34 +107,46 @@ impl fmt::Display for Name {
     }
 }
 
-const NAMES: [Name; 26] = [
-    Name::Kind(Kind::Theory),
-    Name::Kind(Kind::Term),
-    Name::Kind(Kind::Claim),
-    Name::Kind(Kind::Clause),
-    Name::Kind(Kind::Row),
-    Name::Kind(Kind::Allowance),
-    Name::Kind(Kind::Call),
-    Name::Kind(Kind::Step),
-    Name::Ask(Ask::Assert),
-    Name::Ask(Ask::TakeBack),
-    Name::Ask(Ask::Query),
-    Name::Ask(Ask::Write),
-    Name::Ask(Ask::Trial),
-    Name::Ask(Ask::Close),
-    Name::Rule(Rule::Decide),
-    Name::Rule(Rule::Propagate),
-    Name::Rule(Rule::Imply),
-    Name::Rule(Rule::Conflict),
-    Name::Rule(Rule::Clash),
-    Name::Rule(Rule::Resolve),
-    Name::Rule(Rule::Jump),
-    Name::Rule(Rule::Forget),
-    Name::Rule(Rule::Fit),
-    Name::Rule(Rule::NoFit),
-    Name::Sort(Sort::Equality),
-    Name::Sort(Sort::Distance),
-];
+/// The names of so many bytes.
+fn of_length(length: usize) -> &'static [Name]
+    ensures { result.now ≡ names_of_length length }
+{
+    match length {
+        3 => &[Name::Kind(Kind::Row), Name::Rule(Rule::Fit)],
+        4 => &[
+            Name::Kind(Kind::Term),
+            Name::Kind(Kind::Call),
+            Name::Kind(Kind::Step),
+            Name::Rule(Rule::Jump),
+        ],
+        5 => &[
+            Name::Kind(Kind::Claim),
+            Name::Ask(Ask::Query),
+            Name::Ask(Ask::Write),
+            Name::Ask(Ask::Trial),
+            Name::Ask(Ask::Close),
+            Name::Rule(Rule::Imply),
+            Name::Rule(Rule::Clash),
+            Name::Rule(Rule::NoFit),
+        ],
+        6 => &[
+            Name::Kind(Kind::Theory),
+            Name::Kind(Kind::Clause),
+            Name::Ask(Ask::Assert),
+            Name::Rule(Rule::Decide),
+            Name::Rule(Rule::Forget),
+        ],
+        7 => &[Name::Rule(Rule::Resolve)],
+        8 => &[
+            Name::Ask(Ask::TakeBack),
+            Name::Rule(Rule::Conflict),
+            Name::Sort(Sort::Equality),
+            Name::Sort(Sort::Distance),
+        ],
+        9 => &[Name::Kind(Kind::Allowance), Name::Rule(Rule::Propagate)],
+        _ => &[],
+    }
+}
 
 /// What a word is. A number has the value of its digits, unless no field can hold it; a negative one has a `-` before
 /// them.
@@ -160,13 +172,14 @@ fn spelled(names: &[Name], word: &[u8]) -> Option<Name>
     names.iter().copied().find(|name| spells(*name, word))
 }
 
-/// The name that a word spells. No name begins with a digit or a sign, so numbers are not compared with any.
+/// The name that a word spells. No name begins with a digit or a sign, so numbers are compared with none. Other words
+/// are compared only with the names of their length.
 fn known(word: &[u8]) -> Option<Name>
     ensures { result ≡ name_of word.now }
 {
     match word {
         [first, ..] if *first <= b'9' => None,
-        _ => spelled(&NAMES, word),
+        _ => spelled(of_length(word.len()), word),
     }
 }
 

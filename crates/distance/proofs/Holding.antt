@@ -1,21 +1,23 @@
 -- What a table of bounds holds, with one bound more, or cut short. Assumes nothing.
 use Rattle.std.proofs.Common.{◌≡◌, ℕ, ◌+◌, ◌-◌, ◌*◌, ◌<◌, ◌≤◌, min, Bool, true, List, [], ◌∷◌, ◌++◌, length, take, drop, replicate, ℤ, pos, vec_items, sym, ap, ◌∙◌, subst, ⊎_elim, mul-le-mul_right, add-mul, arith, take-append-drop}
-use Rattle.std.proofs.lemmas.List.{get_or-take, length_push, take_all, take-take, take-append-le, length-take-le, take-replicate, length-replicate, length-drop}
+use Rattle.std.proofs.lemmas.List.{length_push, take_all, take-take, take-append-le, length-take-le, take-replicate, length-replicate, length-drop}
+use Rattle.std.proofs.lemmas.List.Elements.{recursion_from_All}
 use Rattle.std.proofs.lemmas.Slice.{between_is}
 use Rattle.std.proofs.lemmas.Bool.{cases_lt}
 use Rattle.theory.specs.Literals.{has}
 use Rattle.theory.specs.Positions.{marked}
+use Rattle.theory.proofs.Answers.{rising_below}
 use Rattle.theory.proofs.Positions.{all_has}
 use Rattle.difference.specs.declared.bound.Bound.{Bound}
-use Rattle.difference.specs.Bounds.{no_bound, Named, NegativeCycle, Core}
+use Rattle.difference.specs.Bounds.{Named, Core}
 use Rattle.difference.specs.Settling.{fits, clash, outcome}
-use Rattle.difference.proofs.Cycle.{leads_within}
 use Rattle.difference.proofs.Outcome.{Good}
 use Rattle.difference.proofs.Whole.{outcome_good, outcome_none}
 use Rattle.difference.proofs.Depth.{clash_stays}
 use Rattle.distance.specs.declared.bounds.Bounds.{Bounds}
 use Rattle.distance.specs.declared.table.Table.{Table}
 use Rattle.distance.specs.Rows.{part, Possible, Broken}
+use Rattle.distance.proofs.Indexing.{each_take}
 
 -- the rows of the possible prefixes, and the marks, of bounds on m terms with room for `most`
 pub record Held (m most : ℕ) (bs : List Bound) (rows : List ℤ) (good : ℕ) (marks : List Bool) : Type 0 where
@@ -127,16 +129,15 @@ module _ (m most : ℕ) (bs : List Bound) (rows : List ℤ) (good : ℕ) (marks 
       ap (outcome m) (sym (take-append-drop (good + 1) bs))
       ∙ clash_stays m (take (good + 1) bs) (drop (good + 1) bs) (marked marks) (h.broken l)
 
-  -- the positions of the core are those of the bounds up to the first that is impossible
+  -- each position of the core is at most that of the first bound that is impossible with those before it
   pub core_front : Named m bs → good < length bs → (q : ℕ) → has (marked marks) q ≡ true → q < good + 1
   core_front named l q t =
       let front = take (good + 1) bs in
       let long : length front ≡ good + 1 = length-take-le (good + 1) bs (omega (arith, l)) in
-      let still_named : Named m front = λ p i. subst (λ b. (b.term < m) × (b.base < m))
-      (sym (get_or-take (good + 1) bs p no_bound (omega (arith, i, long)))) (named p (omega (arith, i, long, l))) in
-      let g : Core front (marked marks) = subst (Good m front) (h.broken l) (outcome_good m front still_named) in
-      let c : NegativeCycle front g.around = g.cycle in
-      let i : q < length front = all_has (λ p. p < length front) g.around (leads_within front c.start g.around c.start c.closed) q (sym (g.same q) ∙ t) in
+      let g : Core front (marked marks) = subst (Good m front) (h.broken l)
+      (outcome_good m front (each_take (λ b. (b.term < m) × (b.base < m)) bs (good + 1) (omega (arith, l)) named)) in
+      let i : q < length front = all_has (λ p. p < length front) (marked marks)
+      (recursion_from_All (λ p. p < length front) (marked marks) (rising_below (length front) (marked marks) g.rises)) q t in
       omega (arith, i, long)
 
   pub row_in : good * m + m ≤ length rows

@@ -15,9 +15,11 @@ use std::alloc::{AllocError, Global};
 use std::array;
 use theory::Literal;
 
-/// The merges so far, oldest first. `rows[k][t]` is the label of `t` after the first `k` merges.
-/// There is a row for as many merges as there can be, and a merge writes the labels of the terms
-/// into its own, so that it costs no more than there are terms.
+/// The merges so far, oldest first. `rows[k][t]` is the label of `t` after the first `k` merges, for
+/// each `k` up to their number; in later rows the labels of terms do not count, and numbers past the
+/// terms have their own label in every row. There is a row for each term and one more, which is
+/// enough, for there are no more merges than terms. A merge writes the labels of the terms alone
+/// into the next row, so that it costs no more than there are terms.
 // Steps and rows stand apart, for a row comes first. That a term is one of the table is asked by
 // each method: no type of a number could name the table.
 #[derive(Drop)]
@@ -48,7 +50,8 @@ fn renamed(x: u16, high: u16, low: u16) -> u16
     if x == high { low } else { x }
 }
 
-/// Makes the labels of the first `m` terms after the merge numbered `k` those of one more merge.
+/// Writes into `rows[k + 1]` the labels of the first `m` terms in `rows[k]`, with `high` replaced by
+/// `low`; all else stays.
 fn rename(rows: &mut [[u16; 256]], k: usize, m: usize, high: u16, low: u16)
     requires next { k + 1 < length rows.old }
     requires few { m ≤ 256 }
